@@ -1,0 +1,20 @@
+//! The scalar values of a table, and the small owners of text and lists that every layer is built of.
+//!
+//! `Text` is seen by contracts as its bytes, `Seq` as a list and `Boxed` as what it holds, so a copy equals its source.
+#![tactic(auto)]
+
+mod boxed;
+mod dec6;
+mod duplicate;
+mod memory;
+mod seq;
+mod text;
+mod value;
+
+pub use boxed::Boxed;
+pub use dec6::Dec6;
+pub use duplicate::Duplicate;
+pub use memory::{Mem, NoMemory, Or, Res};
+pub use seq::Seq;
+pub use text::Text;
+pub use value::{ColType, Value, num_cmp};
