@@ -1,0 +1,4 @@
+pub mod EachSome
+pub mod Filled
+pub mod Joined
+pub mod NumberText
