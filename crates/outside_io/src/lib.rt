@@ -4,11 +4,13 @@
 #![tactic(auto)]
 
 mod files;
+mod mem_files;
 mod mem_sink;
 mod sink;
 mod whole;
 
 pub use files::{Failed, Files};
+pub use mem_files::MemFiles;
 pub use mem_sink::MemSink;
 pub use sink::{Sink, write_all};
 pub use whole::{ReadFault, read_whole};
