@@ -1,5 +1,5 @@
 -- Files and a sink in memory, and when their calls fail.
-use Rattle.std.specs.Prelude.{◌≡◌, ℕ, ◌+◌, ◌-◌, ◌^◌, ◌<◌, ◌==◌, ◌||◌, ◌&&◌, Bool, true, false, not, min, List, [], ◌∷◌, length, replicate, Option, Some, None, Result, Ok, Err, option_map, nat_lt, nat_eq, if◌then◌else◌}
+use Rattle.std.specs.Prelude.{ℕ, ◌+◌, ◌-◌, ◌^◌, ◌==◌, ◌||◌, ◌&&◌, Bool, true, not, min, List, [], ◌∷◌, length, Option, Some, None, Result, Ok, Err, option_map, nat_lt, if◌then◌else◌}
 use Rattle.std.specs.List.{position_or_len, list_any, find}
 use Rattle.std.specs.Str.{bytes_eq}
 use Rattle.outside_io.specs.declared.files.Failed.{Failed}

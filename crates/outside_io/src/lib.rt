@@ -4,12 +4,14 @@
 #![tactic(auto)]
 
 mod files;
+mod gate;
 mod mem_files;
 mod mem_sink;
 mod sink;
 mod whole;
 
 pub use files::{Failed, Files};
+pub use gate::{Gate, OpenGate};
 pub use mem_files::MemFiles;
 pub use mem_sink::MemSink;
 pub use sink::{Sink, write_all};

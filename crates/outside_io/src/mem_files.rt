@@ -21,14 +21,12 @@ pub struct MemFiles {
 }
 
 impl MemFiles {
+    ghost use Rattle.outside_io.specs.MemoryCalls.{AreNewFiles};
+
     /// These files, of which no two have one name; no read was made.
     pub fn new(alloc: Global, files: Seq<(Text, Seq<u8>)>, failing: Seq<u64>) -> Mem<MemFiles>
         requires { IsTrue (are_distinct files) }
-        ensures files { IfOk result (λ m. m.files ≡ files) }
-        ensures failing { IfOk result (λ m. m.failing ≡ failing) }
-        ensures calls { IfOk result (λ m. m.calls ≡ 0) }
-        ensures faults { IfOk result (λ m. m.faults ≡ 0) }
-        ensures counts { IfOk result (λ m. m.counts.items ≡ replicate (length files + 1) 0) }
+        ensures { IfOk result (λ m. AreNewFiles files failing m) }
     {
         let mut counts: Vec<u64> = Vec::new(alloc);
         counts.resize(files.len(), 0)?;
@@ -94,15 +92,29 @@ fn raise(counts: &mut [u64], place: usize)
 }
 
 impl Files for MemFiles {
+    ghost use Rattle.outside_io.specs.MemoryCalls.{IsAfterRead, next_read, count_of};
+
     ghost held = { λ m. Some (file_named m.files) };
 
     ghost faults = { λ m. m.faults };
 
-    ghost faults_of = { λ m name. Some (slice_index m.counts.items (place_named m.files name)) };
+    ghost faults_of = { λ m name. Some (count_of m name) };
 
     ghost told = { λ m bytes name is. Prim.search rules };
 
-    fn read(&mut self, name: &str, at: u64, into: &mut [u8]) -> Result<usize, Failed> {
+    fn read(&mut self, name: &str, at: u64, into: &mut [u8]) -> Result<usize, Failed>
+        ensures answer { result ≡ next_read self.old name.now at (length into.old) }
+        ensures after { IsAfterRead self.old self.new }
+
+        // What the trait says.
+        ensures within { IfOk result (λ n. n ≤ length into.new) }
+        ensures bytes { IfOk result (λ n. ReadsFrom (Some (file_named self.old.files)) name.now at into.new n) }
+        ensures held { Some (file_named self.new.files) ≡ Some (file_named self.old.files) }
+        ensures failed { OnErr result (FailedAt (Some (count_of self.old name.now)) (Some (count_of self.new name.now)) self.old.faults self.new.faults) }
+        ensures kept { OnOk result (NoneRose self.old.faults self.new.faults (λ other. Some (count_of self.old other)) (λ other. Some (count_of self.new other))) }
+        ensures later { NoneFell self.old.faults self.new.faults (λ other. Some (count_of self.old other)) (λ other. Some (count_of self.new other)) }
+        ensures others { OthersKept (Some (file_named self.old.files)) name.now (λ other. Some (count_of self.old other)) (λ other. Some (count_of self.new other)) }
+    {
         self.calls = self.calls.saturating_add(1);
         let place = place_of(self.files.as_slice(), name);
         if self.failing.as_slice().contains(&self.calls) {

@@ -24,10 +24,12 @@ pub struct MemSink {
 }
 
 impl MemSink {
+    ghost use Rattle.outside_io.specs.MemoryCalls.{IsNewSink, sink_bytes};
+
     /// A sink that has taken nothing.
     pub fn new(alloc: Global, room: usize, most: usize, failing: Seq<u64>) -> Mem<MemSink>
         requires { 0 < most }
-        ensures { IfOk result (λ s. s.bytes.items ≡ []) }
+        ensures { IfOk result (λ s. IsNewSink room most failing s) }
     {
         Ok(MemSink {
             bytes: Vec::with_capacity(alloc, room)?,
@@ -41,18 +43,30 @@ impl MemSink {
 
     /// The bytes that were taken.
     pub fn bytes(&self) -> &[u8]
-        ensures { result.now ≡ self.now.bytes.items }
+        ensures { result.now ≡ sink_bytes self.now }
     {
         &self.bytes
     }
 }
 
 impl Sink for MemSink {
-    ghost taken = { λ s. Some s.bytes.items };
+    ghost use Rattle.outside_io.specs.MemoryCalls.{IsAfterWrite, next_write, sink_bytes};
+
+    ghost taken = { λ s. Some (sink_bytes s) };
 
     ghost faults = { λ s. s.faults };
 
-    fn write(&mut self, piece: &[u8]) -> Result<usize, Failed> {
+    fn write(&mut self, piece: &[u8]) -> Result<usize, Failed>
+        ensures answer { result ≡ next_write self.old (length piece.now) }
+        ensures after { IsAfterWrite self.old self.new }
+
+        // What the trait says.
+        ensures within { IfOk result (λ n. n ≤ length piece.now) }
+        ensures progress { IfOk result (λ n. 0 < length piece.now → 0 < n) }
+        ensures bytes { IfOk result (λ n. Takes (Some (sink_bytes self.old)) (Some (sink_bytes self.new)) (take n piece.now)) }
+        ensures none { OnErr result (Some (sink_bytes self.new) ≡ Some (sink_bytes self.old)) }
+        ensures cause { HasCause self.old.faults self.new.faults result }
+    {
         self.calls = self.calls.saturating_add(1);
         let left = self.room - self.bytes.len();
         let full = left == 0 && !piece.is_empty();
