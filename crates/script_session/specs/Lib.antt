@@ -6,3 +6,6 @@ pub mod FirstScript
 pub mod FirstTable
 pub mod Verbs
 pub mod CsvText
+pub mod FaultLines
+pub mod Answer
+pub mod Outcome

@@ -2,13 +2,16 @@
 #![tactic(auto)]
 
 mod each;
+mod fault;
 mod names;
 mod numbers;
 mod print;
 mod script;
+mod status;
 mod table;
 mod verbs;
 mod words;
 
 pub use script::{Comparison, FirstScript};
+pub use status::{PlanRun, Refusal, RunRecord, Status};
 pub use words::{BadWords, Words};
