@@ -1,3 +1,4 @@
+pub mod AnswerSteps
 pub mod EachSome
 pub mod Filled
 pub mod Joined

@@ -63,13 +63,17 @@ table_of words held = do
   bytes ← file_of (held words.path) words.path table_limit
   or_refused (first_table bytes) (not_built_table words.name)
 
+abbrev pub result_of : Words → FirstScript → TableValue → Result (List ℕ) Refusal
+result_of words script table = or_refused (first_meaning script words.name table) (not_built_script words.script) >>= (λ result. Ok (csv_text result))
+
+unfoldable pub answer_of : Words → Held → Result (List ℕ) Refusal
+answer_of words held = do
+  script ← script_of words held
+  table ← table_of words held
+  result_of words script table
+
 unfoldable pub answer : List (List ℕ) → Held → Result (List ℕ) Refusal
-answer words held = do
-  named ← or_refused (words_of words) bad_words
-  script ← script_of named held
-  table ← table_of named held
-  result ← or_refused (first_meaning script named.name table) (not_built_script named.script)
-  Ok (csv_text result)
+answer words held = or_refused (words_of words) bad_words >>= (λ named. answer_of named held)
 
 -- the paths of the words, where these are accepted
 abbrev pub paths_of : Option Words → List (List ℕ)

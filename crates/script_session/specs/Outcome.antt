@@ -12,7 +12,7 @@ use Rattle.script_session.specs.declared.status.Stop.{Stop}
 use Rattle.script_session.specs.declared.status.Stop.TheVariants.{Refused, Unread}
 use Rattle.script_session.specs.declared.words.Words.{Words}
 use Rattle.script_session.specs.FirstWords.{words_of}
-use Rattle.script_session.specs.Answer.{answer, named_paths, paths_reached}
+use Rattle.script_session.specs.Answer.{answer, paths_of, named_paths, paths_reached}
 use Rattle.script_session.specs.FaultLines.{usage_line, script_line, table_line, unread_line, long_line, write_line, memory_line}
 
 abbrev pub IsAmong : List ℕ → List (List ℕ) → Type 0
@@ -122,12 +122,39 @@ ByUnread (Err (Fault (Refused refusal))) P Q = Q
 ByUnread (Err (Fault (Unread path))) P Q = P path
 ByUnread (Err Memory) P Q = Unit {0}
 
--- a refusal of these words, by its status
+-- the file at the path is too long
+abbrev pub IsTooLong : List ℕ → Refusal → Type 0
+IsTooLong path refusal = (refusal.status ≡ status.Read) × (refusal.line ≡ long_line path)
+
+-- a refusal of what the accepted words name, by its status
+abbrev pub IsRefusedOf : Words → Status → List ℕ → Type 0
+IsRefusedOf named status.Done line = ⊥
+IsRefusedOf named status.Usage line = ⊥
+IsRefusedOf named status.Script line = line ≡ script_line named.script
+IsRefusedOf named status.Table line = line ≡ table_line named.name
+IsRefusedOf named status.Read line = (path : List ℕ) × IsAmong path (paths_of (Some named)) × (line ≡ long_line path)
+IsRefusedOf named status.Write line = ⊥
+IsRefusedOf named status.Memory line = ⊥
+
+-- a refusal of the words, or of what they name
 abbrev pub IsRefused : List (List ℕ) → Status → List ℕ → Type 0
-IsRefused words status.Done line = ⊥
 IsRefused words status.Usage line = (words_of words ≡ None) × (line ≡ usage_line)
-IsRefused words status.Script line = (named : Words) × (words_of words ≡ Some named) × (line ≡ script_line named.script)
-IsRefused words status.Table line = (named : Words) × (words_of words ≡ Some named) × (line ≡ table_line named.name)
-IsRefused words status.Read line = (path : List ℕ) × IsNamed words path × (line ≡ long_line path)
-IsRefused words status.Write line = ⊥
-IsRefused words status.Memory line = ⊥
+IsRefused words ended line = (named : Words) × (words_of words ≡ Some named) × IsRefusedOf named ended line
+
+-- where the words are refused, that is the answer, or there is no memory
+abbrev pub IsUsage : {T : Type 0} → Result T (Or Stop) → Type 0
+IsUsage (Ok x) = ⊥
+IsUsage (Err (Fault (Refused refusal))) = refusal.status ≡ status.Usage
+IsUsage (Err (Fault (Unread path))) = ⊥
+IsUsage (Err Memory) = Unit {0}
+
+-- the result was written whole, or a front of it where the output failed
+abbrev pub IsWritten : Status → List ℕ → ℕ → ℕ → Option (List ℕ) → Option (List ℕ) → Type 0
+IsWritten status.Done text before now old new = Takes old new text × (now ≡ before)
+IsWritten status.Write text before now old new = TakesPart old new text × Rose before now
+IsWritten ended text before now old new = ⊥
+
+-- what err took of that
+abbrev pub IsWriteTold : Status → ℕ → ℕ → Option (List ℕ) → Option (List ℕ) → Type 0
+IsWriteTold status.Done before now old new = new ≡ old
+IsWriteTold ended before now old new = WritesLine before now old new write_line

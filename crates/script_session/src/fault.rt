@@ -2,10 +2,9 @@ ghost use Rattle.std.specs.Prelude.{◌≡◌, IfOk};
 ghost use Rattle.script_session.specs.FaultLines.{script_line, table_line, unread_line, long_line};
 ghost use Rattle.script_session.specs.Answer.{bad_words, not_built_script, not_built_table, too_long};
 
+use crate::status::{Refusal, Status};
 use scalar_value::{Mem, Text};
 use std::alloc::Global;
-
-use crate::status::{Refusal, Status};
 
 /// The line of a refusal of the words.
 pub const USAGE_LINE: &str = "acero_run: bad command line\n";
