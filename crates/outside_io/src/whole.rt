@@ -10,7 +10,7 @@ use std::alloc::Global;
 const PIECE: usize = 1 << 18;
 
 /// Why a whole file was not read.
-#[derive(Debug, Clone, Copy, PartialEq, Eq, Drop)]
+#[derive(Debug, Clone, Copy, PartialEq, Eq)]
 pub enum ReadFault {
     /// A read failed.
     Failed,
