@@ -1,4 +1,4 @@
-ghost use Rattle.std.specs.Prelude.{◌≡◌, ◌≤◌, List, ℕ, None, length, IfOk};
+ghost use Rattle.std.specs.Prelude.{◌≤◌, None, length, IfOk};
 
 use outside_io::{Failed, Files, Sink};
 use std::alloc::Global;

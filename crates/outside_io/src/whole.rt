@@ -1,4 +1,4 @@
-ghost use Rattle.std.specs.Prelude.{◌≡◌, ◌≤◌, ◌<◌, ◌+◌, List, ℕ, Some, length, take, IfOk, OnOk, OnErr};
+ghost use Rattle.std.specs.Prelude.{◌≡◌, ◌≤◌, ◌<◌, ◌+◌, Some, length, take, IfOk, OnOk, OnErr};
 ghost use Rattle.outside_io.specs.Counts.{FailedAt, NoneRose, NoneFell};
 ghost use Rattle.outside_io.specs.Outside.{Held, IsWhole, ByFailed, OthersKept, IsNext};
 
