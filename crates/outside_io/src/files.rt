@@ -3,7 +3,7 @@ ghost use Rattle.outside_io.specs.Counts.{FailedAt, NoneRose, NoneFell};
 ghost use Rattle.outside_io.specs.Outside.{Held, ReadsFrom, OthersKept};
 
 /// A read or a write failed. The count of its object's faults says so too.
-#[derive(Debug, Clone, Copy, PartialEq, Eq, Drop)]
+#[derive(Debug, Clone, Copy, PartialEq, Eq)]
 pub struct Failed;
 
 /// Files that are read by name, as a folder.

@@ -9,7 +9,7 @@ pub trait Gate: Send + Sync {
 }
 
 /// A gate that holds nobody back.
-#[derive(Debug, Clone, Copy, PartialEq, Eq, Drop)]
+#[derive(Debug, Clone, Copy, PartialEq, Eq)]
 pub struct OpenGate;
 
 impl Gate for OpenGate {

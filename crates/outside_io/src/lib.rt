@@ -16,3 +16,6 @@ pub use mem_files::MemFiles;
 pub use mem_sink::MemSink;
 pub use sink::{Sink, write_all};
 pub use whole::{ReadFault, read_whole};
+
+#[cfg(test)]
+mod tests;

@@ -1,8 +1,8 @@
-ghost use Rattle.std.specs.Prelude.{◌≡◌, ◌≤◌, ◌<◌, ◌+◌, ◌-◌, ◌^◌, [], List, ℕ, Some, min, length, take, drop, replicate, IfOk, OnOk, OnErr, IsSome, IsTrue, vec_len, slice_index, slice_set};
+ghost use Rattle.std.specs.Prelude.{◌≡◌, ◌≤◌, ◌<◌, ◌+◌, ◌-◌, Some, min, length, IfOk, OnOk, OnErr, IsTrue, vec_len, slice_index, slice_set};
 ghost use Rattle.std.proofs.Common.{rules};
 ghost use Rattle.outside_io.specs.Counts.{FailedAt, NoneRose, NoneFell};
-ghost use Rattle.outside_io.specs.Outside.{Held, ReadsFrom, OthersKept, FillsFrom};
-ghost use Rattle.outside_io.specs.Memory.{Named, place_named, file_named, are_distinct, next_count, is_to_fail, read_answer};
+ghost use Rattle.outside_io.specs.Outside.{ReadsFrom, OthersKept, FillsFrom};
+ghost use Rattle.outside_io.specs.Memory.{place_named, file_named, are_distinct, next_count};
 
 use crate::files::{Failed, Files};
 use scalar_value::{Mem, Seq, Text};

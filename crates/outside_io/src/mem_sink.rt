@@ -1,4 +1,4 @@
-ghost use Rattle.std.specs.Prelude.{◌≡◌, ◌≤◌, ◌<◌, ◌+◌, ◌-◌, ◌^◌, [], List, ℕ, Some, min, length, take, IfOk, OnOk, OnErr, vec_capacity, vec_len};
+ghost use Rattle.std.specs.Prelude.{◌≡◌, ◌≤◌, ◌<◌, Some, length, take, IfOk, OnErr, vec_capacity, vec_len};
 ghost use Rattle.outside_io.specs.Counts.{HasCause};
 ghost use Rattle.outside_io.specs.Outside.{Takes};
 

@@ -1,4 +1,4 @@
-ghost use Rattle.std.specs.Prelude.{◌≡◌, ◌≤◌, ◌<◌, ◌+◌, List, ℕ, Some, length, take, IfOk, OnOk, OnErr};
+ghost use Rattle.std.specs.Prelude.{◌≡◌, ◌≤◌, ◌<◌, ◌+◌, Some, length, take, IfOk, OnOk, OnErr};
 ghost use Rattle.outside_io.specs.Counts.{FailedAt, NoneRose, NoneFell};
 ghost use Rattle.outside_io.specs.Outside.{Held, IsWhole, ByFailed, OthersKept, IsNext};
 
@@ -10,7 +10,7 @@ use std::alloc::Global;
 const PIECE: usize = 1 << 18;
 
 /// Why a whole file was not read.
-#[derive(Debug, Clone, Copy, PartialEq, Eq, Drop)]
+#[derive(Debug, Clone, Copy, PartialEq, Eq)]
 pub enum ReadFault {
     /// A read failed.
     Failed,

@@ -27,7 +27,7 @@ returns-clause-known g c =
     (λ held p. (
       front_whole (held c.args.name.now) c.read_next.new.buffer c.pieces.filled c.in-Ok.count
           (search rules)
-          c.if-count-eq0.true
+          (omega arith)
           (front_next _ _ _ _ _ (c.pieces.invariant.front held p) kept (more held p))
           (more held p),
       omega (arith, length-take (c.pieces.filled + c.in-Ok.count) c.read_next.new.buffer),
