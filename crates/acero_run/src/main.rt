@@ -1,16 +1,68 @@
 //! The program: the files and streams of the system, and the top call over them.
 #![tactic(auto)]
 
+ghost use Rattle.std.specs.Prelude.{◌≡◌};
+ghost use Rattle.acero_run.specs.Codes.{code_of};
+
 mod real;
 
 use crate::real::{RealFiles, RealSink};
+use outside_io::{Failed, Sink, write_all};
+use scalar_value::Seq;
+use script_session::{RunRecord, Status, run_single};
+use std::env;
 use std::process::ExitCode;
 
 fn main(rt: HostRuntime) -> ExitCode {
-    let _files = RealFiles::new(&rt, rt.alloc());
-    let _out = RealSink::new(rt.stdout());
-    let _err = RealSink::new(rt.stderr());
-    ExitCode::SUCCESS
+    let alloc = rt.alloc();
+    let mut files = RealFiles::new(&rt, alloc);
+    let mut out = RealSink::new(rt.stdout());
+    let mut err = RealSink::new(rt.stderr());
+    let mut journal = RunRecord {
+        runs: Seq::new(alloc),
+    };
+    let Some(words) = words_of(&rt) else {
+        return without_memory(&mut err);
+    };
+    let status = run_single(
+        &rt,
+        alloc,
+        &words,
+        &mut files,
+        &mut out,
+        &mut err,
+        &mut journal,
+    );
+    ExitCode::from(code_of(status))
+}
+
+// The words behind the program's name. Where they are no texts there are none, which is a faulty command line.
+fn words_of(rt: &HostRuntime) -> Option<Vec<String>> {
+    match env::args(rt) {
+        Ok(args) => args.skip(1).collect(rt.alloc()).ok(),
+        Err(_) => Some(Vec::new(rt.alloc())),
+    }
+}
+
+fn without_memory<E: Sink>(err: &mut E) -> ExitCode {
+    match write_all(err, b"acero_run: out of memory\n") {
+        Ok(()) | Err(Failed) => ExitCode::from(code_of(Status::Memory)),
+    }
+}
+
+/// The exit status of the program.
+fn code_of(status: Status) -> u8
+    ensures { result ≡ code_of status }
+{
+    match status {
+        Status::Done => 0,
+        Status::Usage => 2,
+        Status::Script => 3,
+        Status::Table => 4,
+        Status::Read => 5,
+        Status::Write => 6,
+        Status::Memory => 7,
+    }
 }
 
 #[cfg(test)]

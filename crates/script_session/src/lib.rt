@@ -18,3 +18,6 @@ pub use run::run_single;
 pub use script::{Comparison, FirstScript};
 pub use status::{PlanRun, Refusal, RunRecord, Status};
 pub use words::{BadWords, Words};
+
+#[cfg(test)]
+mod tests;
