@@ -3,3 +3,4 @@ pub mod EachSome
 pub mod Filled
 pub mod Joined
 pub mod NumberText
+pub mod PrintedTable
