@@ -4,3 +4,5 @@ pub mod Filled
 pub mod Joined
 pub mod NumberText
 pub mod PrintedTable
+pub mod SpelledBytes
+pub mod SpelledScript
