@@ -3,3 +3,6 @@ pub mod EachSome
 pub mod Filled
 pub mod Joined
 pub mod NumberText
+pub mod PrintedTable
+pub mod SpelledBytes
+pub mod SpelledScript

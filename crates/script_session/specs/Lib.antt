@@ -9,3 +9,4 @@ pub mod CsvText
 pub mod FaultLines
 pub mod Answer
 pub mod Outcome
+pub mod Laws

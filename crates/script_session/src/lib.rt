@@ -4,6 +4,7 @@
 mod answer;
 mod each;
 mod fault;
+mod laws;
 mod names;
 mod numbers;
 mod print;
@@ -14,6 +15,7 @@ mod table;
 mod verbs;
 mod words;
 
+pub use laws::{printed_is_read, spelled_is_read};
 pub use run::run_single;
 pub use script::{Comparison, FirstScript};
 pub use status::{PlanRun, Refusal, RunRecord, Status};
