@@ -1,0 +1,9 @@
+// The plan machine: how the nodes of a plan, its edges and its workers go from one state to the next,
+// and the laws that hold of every history.
+#![tactic(auto)]
+
+mod entry;
+mod shape;
+
+pub use entry::{Entry, Job, Phase, is_upkeep};
+pub use shape::{OpShape, first_phase, part_count, phase_after_seal};
