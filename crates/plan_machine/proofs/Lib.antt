@@ -5,3 +5,4 @@ pub mod Pieces
 pub mod Value
 pub mod Pass
 pub mod Turn
+pub mod Flight

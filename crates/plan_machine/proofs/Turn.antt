@@ -1,19 +1,19 @@
 -- An entry changes one node and gives some batches to that node's edge: then every node still gives
 -- what it gave, and the rows of the sink stay the same.
-use Rattle.std.proofs.Common.{◌≡◌, ℕ, zero, suc, ◌+◌, ◌<◌, ◌≤◌, ◌≢◌, ◌⊎◌, inl, inr, Bool, true, false, cond, eqb, List, [], ◌∷◌, ◌++◌, length, map, Option, Some, None, refl, sym, ap, subst, arith, ◌∙◌}
+use Rattle.std.proofs.Common.{◌≡◌, ℕ, zero, suc, ◌+◌, ◌<◌, ◌≤◌, ◌≢◌, ◌⊎◌, inl, inr, Bool, true, false, cond, eqb, List, [], ◌∷◌, ◌++◌, length, map, Option, Some, None, refl, sym, ap, subst, arith, ◌∙◌, append-nil}
 use Rattle.std.proofs.lemmas.Bool.Decides.{eqb_tells}
 use Rattle.plan_machine.specs.declared.entry.Phase.{Phase}
 use Rattle.plan_machine.specs.declared.entry.Phase.TheVariants.{Emitting, Folding, Streaming, Tailing, Sealed, Done}
-use Rattle.plan_machine.specs.Lists.{weigh}
+use Rattle.plan_machine.specs.Lists.{gather, weigh}
 use Rattle.plan_machine.specs.Batch.{Batch}
 use Rattle.plan_machine.specs.Plan.{Plan, Node, IsNode, IsEdge, IsSource, Folds, IsJoin, OnlyStreams, folds_from, streams_from}
-use Rattle.plan_machine.specs.State.{State}
+use Rattle.plan_machine.specs.State.{State, Task, tasks_at}
 use Rattle.plan_machine.specs.Meaning.{SameRows}
 use Rattle.plan_machine.specs.WellFormed.{Streams, Lawful, WellFormed, IsInput, IsPlaced}
-use Rattle.plan_machine.proofs.Weigh.{weigh-append, same_or}
-use Rattle.plan_machine.proofs.Same.{Same, IsDistinct, IsDistinct-same}
-use Rattle.plan_machine.proofs.Value.{View, Coming, all_folded, base_by, future_by, view, coming, future_with, base_with, future, answer}
-use Rattle.plan_machine.proofs.Pass.{true_or_false, fold_kept, stream_kept, Arrives, base-passed, future-passed, all_folded-same}
+use Rattle.plan_machine.proofs.Weigh.{weigh-append, same_or, flat}
+use Rattle.plan_machine.proofs.Same.{Same, IsDistinct, IsDistinct-same, SameRows-trans}
+use Rattle.plan_machine.proofs.Value.{View, Coming, holds_of, gives_of, all_folded, base_by, future_by, view, coming, future_with, base_with, future, answer}
+use Rattle.plan_machine.proofs.Pass.{true_or_false, Same-trans, fold_kept, stream_kept, Arrives, base-passed, future-passed, all_folded-same}
 
 -- the batches that are new on edge e, where node a gives them
 abbrev pub new_at : {A : Type 0} → ℕ → List A → ℕ → List A
@@ -56,22 +56,40 @@ module _ {R : Type 0} (P : Plan R) (L : Lawful P) (W : WellFormed P) where
   abbrev pub AllDistinct : State R → Type 0
   AllDistinct s = (k n : ℕ) → IsNode P n → n ≤ suc k → DistinctAt s (future P k s) n
 
-  -- what is known of what comes to node a before and after
-  pub record Inputs (s s' : State R) (f f' : ℕ → List (Batch R)) (a : ℕ) : Type 0 where
-    pub same : (e : ℕ) → IsInput P a e → Same (P.node e).kept (f e) (f' e)
-    pub none : (e : ℕ) → IsInput P a e → s.phase e ≡ Done → f e ≡ []
-    pub none' : (e : ℕ) → IsInput P a e → s'.phase e ≡ Done → f' e ≡ []
+  -- all that is known of node n but for its edges is as before
+  pub record Agree (s s' : State R) (n : ℕ) : Type 0 where
+    pub phase : s.phase n ≡ s'.phase n
+    pub locals : s.locals n ≡ s'.locals n
+    pub built : s.built n ≡ s'.built n
+    pub streamed : s.streamed n ≡ s'.streamed n
+    pub next : s.next n ≡ s'.next n
+    pub flight : tasks_at P s n ≡ tasks_at P s' n
+
+  pub view-agrees : (s s' : State R) (n : ℕ) → Agree s s' n → view P s n ≡ view P s' n
+  view-agrees s s' n A =
+      let p = A.phase in
+      let l = ap (λ (f : ℕ → List (Batch R)). gather P.workers f) A.locals in
+      let h = ap (λ (ts : List (Task R)). flat (holds_of P) ts) A.flight in
+      let g = ap (λ (ts : List (Task R)). flat (gives_of P) ts) A.flight in
+      let b = A.built in
+      let t = A.streamed in
+      let x = A.next in
+      cc
+
+  -- what is known of what comes to node a
+  pub record Known (s s' : State R) (f : ℕ → List (Batch R)) (a : ℕ) : Type 0 where
+    pub none : (e : ℕ) → IsInput P a e → s'.phase e ≡ Done → f e ≡ []
     pub distinct : DistinctAt s f a
 
   -- an entry at node a, which gives the batches `new`
   pub record Turn (s s' : State R) (a : ℕ) : Type 0 where
     pub new : List (Batch R)
     pub fresh : weigh (λ x. x.from) new ≡ 0
-    pub others : (n : ℕ) → IsNode P n → n ≢ a → view P s n ≡ view P s' n
+    pub others : (n : ℕ) → IsNode P n → n ≢ a → Agree s s' n
     pub added : (e : ℕ) → IsEdge P e → P.user e ≢ a → s'.waiting e ≡ s.waiting e ++ new_at a new e
-    pub gives : (f f' : ℕ → List (Batch R)) → Inputs s s' f f' a → Same (P.node a).kept (future_with P s f a) (new ++ future_with P s' f' a)
-    pub base : (f f' : ℕ → List (Batch R)) → Inputs s s' f f' a → SameRows (fold_kept P L W a) (base_with P s f a) (base_with P s' f' a)
-    pub folds : (f f' : ℕ → List (Batch R)) → Inputs s s' f f' a → s'.phase a ≡ Folding → (s.phase a ≡ Folding) × Same (fold_kept P L W a) (folded_all s f a) (folded_all s' f' a)
+    pub gives : (f : ℕ → List (Batch R)) → Known s s' f a → Same (P.node a).kept (future_with P s f a) (new ++ future_with P s' f a)
+    pub base : (f : ℕ → List (Batch R)) → Known s s' f a → SameRows (fold_kept P L W a) (base_with P s f a) (base_with P s' f a)
+    pub folds : (f : ℕ → List (Batch R)) → s'.phase a ≡ Folding → (s.phase a ≡ Folding) × Same (fold_kept P L W a) (folded_all s f a) (folded_all s' f a)
 
   pub future-done : (k : ℕ) (s : State R) (e : ℕ) → s.phase e ≡ Done → future P k s e ≡ []
   unfolding future
@@ -118,38 +136,69 @@ module _ {R : Type 0} (P : Plan R) (L : Lawful P) (W : WellFormed P) where
           streamed = λ st. g (streams_from P n) (streams_input P W n i st);
         }
 
-    inputs : (f f' : ℕ → List (Batch R)) → Give f f' a → ((e : ℕ) → s.phase e ≡ Done → f e ≡ []) → ((e : ℕ) → s'.phase e ≡ Done → f' e ≡ []) → DistinctAt s f a → Inputs s s' f f' a
-    inputs f f' g n n' d =
+    -- node a before the entry, with what its inputs give afterwards
+    nears : (f f' : ℕ → List (Batch R)) → IsNode P a → Give f f' a → DistinctAt s f a → Arrives P L W a (s.phase a) (view P s a) (coming P s f a) (coming P s f' a)
+    nears f f' i g d =
+        let near : (e : ℕ) → IsInput P a e → Same (P.node e).kept (f e) (f' e) = λ e p H t.
+          let q = p.before in
+          let z = ap (weigh H) (new_at-else e (λ w. absurd (omega arith))) in
+          let z' = weigh-append H (new_at a T.new e) (f' e) in
+          let x = g e p H t in
+          omega arith in
         record {
-          same = λ e p H t.
-            let q = p.before in
-            let z = ap (weigh H) (new_at-else e (λ w. absurd (omega arith))) in
-            let z' = weigh-append H (new_at a T.new e) (f' e) in
-            let x = g e p H t in
+          folds = S.folding a i;
+          streams = S.streaming a i;
+          folded = λ fo H t.
+            let e : ℕ = folds_from P a in
+            let x = weigh-append H (s.waiting e) (f e) in
+            let y = weigh-append H (s.waiting e) (f' e) in
+            let z = near e (folds_input P W a i fo) H t in
             omega arith;
-          none = λ e p. n e;
-          none' = λ e p. n' e;
           distinct = d;
+          new = [];
+          fresh = refl;
+          waiting = λ st. sym (append-nil (s.waiting (streams_from P a)));
+          streamed = λ st. near (streams_from P a) (streams_input P W a i st);
         }
 
+    nears-distinct : (f f' : ℕ → List (Batch R)) → IsNode P a → Give f f' a → DistinctAt s f a → DistinctAt s f' a
+    nears-distinct f f' i g d q ke =
+        let A = nears f f' i g d in
+        let m = all_folded-same P L W a i (view P s a) (coming P s f a) (coming P s f' a) (s.phase a) A (S.folding a i q) in
+        IsDistinct-same _ _ (subst (λ (b : Bool). Same b (folded_all s f a) (folded_all s f' a)) ke m) (d q ke)
+
+    known : (f f' : ℕ → List (Batch R)) → IsNode P a → Give f f' a → ((e : ℕ) → s'.phase e ≡ Done → f' e ≡ []) → DistinctAt s f a → Known s s' f' a
+    known f f' i g nil' d = record { none = λ e p. nil' e; distinct = nears-distinct f f' i g d }
+
+    gives-here : (f f' : ℕ → List (Batch R)) → IsNode P a → Give f f' a → ((e : ℕ) → s'.phase e ≡ Done → f' e ≡ []) → DistinctAt s f a → Same (P.node a).kept (future_with P s f a) (T.new ++ future_with P s' f' a)
+    gives-here f f' i g nil' d =
+        Same-trans (P.node a).kept _ _ _
+        (future-passed P L W a i (view P s a) (coming P s f a) (coming P s f' a) (s.phase a) (nears f f' i g d))
+        (T.gives f' (known f f' i g nil' d))
+
+    base-here : (f f' : ℕ → List (Batch R)) → IsNode P a → Give f f' a → ((e : ℕ) → s'.phase e ≡ Done → f' e ≡ []) → DistinctAt s f a → SameRows (fold_kept P L W a) (base_with P s f a) (base_with P s' f' a)
+    base-here f f' i g nil' d =
+        SameRows-trans (fold_kept P L W a) _ _ _
+        (base-passed P L W a i (view P s a) (coming P s f a) (coming P s f' a) (s.phase a) (nears f f' i g d))
+        (T.base f' (known f f' i g nil' d))
+
+    abbrev GivesHere : (f f' : ℕ → List (Batch R)) → ℕ → Type 0
+    GivesHere f f' m = IsNode P m → Give f f' m → DistinctAt s f m → Same (P.node m).kept (future_with P s f m) (new_at a T.new m ++ future_with P s' f' m)
+
     -- one level: what node n gives, given what its inputs give
-    level : (f f' : ℕ → List (Batch R)) (n : ℕ) → IsNode P n → Give f f' n → ((e : ℕ) → s.phase e ≡ Done → f e ≡ []) → ((e : ℕ) → s'.phase e ≡ Done → f' e ≡ []) → DistinctAt s f n → Same (P.node n).kept (future_with P s f n) (new_at a T.new n ++ future_with P s' f' n)
-    level f f' n i g nil nil' d =
+    level : (f f' : ℕ → List (Batch R)) (n : ℕ) → IsNode P n → Give f f' n → ((e : ℕ) → s'.phase e ≡ Done → f' e ≡ []) → DistinctAt s f n → Same (P.node n).kept (future_with P s f n) (new_at a T.new n ++ future_with P s' f' n)
+    level f f' n i g nil' d =
         elim (same_or n a) [
-            inl e ↦ here n e g d
+            inl e ↦
+            let z : GivesHere f f' a = λ i g d. rw (new_at-here a refl) (gives-here f f' i g nil' d) in
+            subst (GivesHere f f') (sym e) z i g d
           | inr e ↦
             let A = arrives f f' n i e g d in
             let p = future-passed P L W n i (view P s n) (coming P s f n) (coming P s' f' n) (s.phase n) A in
             let q : Same (P.node n).kept (future_with P s f n) (future_with P s' f' n) =
-              subst (λ (X : View R). Same (P.node n).kept (future_with P s f n) (future_by (P.node n) P.batch X.phase X (coming P s' f' n))) (T.others n i e) p in
+              subst (λ (X : View R). Same (P.node n).kept (future_with P s f n) (future_by (P.node n) P.batch X.phase X (coming P s' f' n))) (view-agrees s s' n (T.others n i e)) p in
             rw (new_at-else n e) q
         ]
-      where
-        here : (m : ℕ) → m ≡ a → Give f f' m → DistinctAt s f m → Same (P.node m).kept (future_with P s f m) (new_at a T.new m ++ future_with P s' f' m)
-        here m e g d =
-            let Q : ℕ → Type 0 = λ m. Give f f' m → DistinctAt s f m → Same (P.node m).kept (future_with P s f m) (new_at a T.new m ++ future_with P s' f' m) in
-            let z : Q a = λ g d. rw (new_at-here a refl) (T.gives f f' (inputs f f' g nil nil' d)) in
-            subst Q (sym e) z g d
 
     module _ (D : AllDistinct s) where
 
@@ -159,7 +208,7 @@ module _ {R : Type 0} (P : Plan R) (L : Lawful P) (W : WellFormed P) where
       turned (suc k) n i l =
           level (future P k s) (future P k s') n i
           (λ e p. turned k e (p.node, (let b = p.before in let c = i.1 in omega arith)) (let b = p.before in omega arith))
-          (future-done k s) (future-done k s') (D k n i l)
+          (future-done k s') (D k n i l)
 
       gave : (k n : ℕ) → IsNode P n → n ≤ suc k → Give (future P k s) (future P k s') n
       gave k n i l e p = turned k e (p.node, (let b = p.before in let c = i.1 in omega arith)) (let b = p.before in omega arith)
@@ -169,8 +218,9 @@ module _ {R : Type 0} (P : Plan R) (L : Lawful P) (W : WellFormed P) where
 
       distinct_then : (k : ℕ) → DistinctThen k a
       distinct_then k i l q ke =
-          let t = T.folds (future P k s) (future P k s') (inputs (future P k s) (future P k s') (gave k a i l) (future-done k s) (future-done k s') (D k a i l)) q in
-          IsDistinct-same _ _ (subst (λ (b : Bool). Same b (folded_all s (future P k s) a) (folded_all s' (future P k s') a)) ke t.1) (D k a i l t.0 ke)
+          let t = T.folds (future P k s') q in
+          let d = nears-distinct (future P k s) (future P k s') i (gave k a i l) (D k a i l) t.0 ke in
+          IsDistinct-same _ _ (subst (λ (b : Bool). Same b (folded_all s (future P k s') a) (folded_all s' (future P k s') a)) ke t.1) d
 
       pub AllDistinct-turned : AllDistinct s'
       AllDistinct-turned k n i l q ke =
@@ -178,7 +228,7 @@ module _ {R : Type 0} (P : Plan R) (L : Lawful P) (W : WellFormed P) where
               inl e ↦ subst (DistinctThen k) (sym e) (distinct_then k) i l q ke
             | inr e ↦
               let A = arrives (future P k s) (future P k s') n i e (gave k n i l) (D k n i l) in
-              let v : view P s n ≡ view P s' n = T.others n i e in
+              let v : view P s n ≡ view P s' n = view-agrees s s' n (T.others n i e) in
               let ph : s.phase n ≡ Folding = ap (λ (X : View R). X.phase) v ∙ q in
               let m = all_folded-same P L W n i (view P s n) (coming P s (future P k s) n) (coming P s' (future P k s') n) (s.phase n) A (S.folding n i ph) in
               let m' : Same (fold_kept P L W n) (folded_all s (future P k s) n) (folded_all s' (future P k s') n) =
@@ -190,7 +240,7 @@ module _ {R : Type 0} (P : Plan R) (L : Lawful P) (W : WellFormed P) where
       BaseThen m = IsNode P m → m ≤ suc P.sink → SameRows (fold_kept P L W m) (base_with P s (future P P.sink s) m) (base_with P s' (future P P.sink s') m)
 
       base_then : BaseThen a
-      base_then i l = T.base (future P P.sink s) (future P P.sink s') (inputs (future P P.sink s) (future P P.sink s') (gave P.sink a i l) (future-done P.sink s) (future-done P.sink s') (D P.sink a i l))
+      base_then i l = base-here (future P P.sink s) (future P P.sink s') i (gave P.sink a i l) (future-done P.sink s') (D P.sink a i l)
 
       pub answer-turned : SameRows (fold_kept P L W P.sink) (answer P s) (answer P s')
       answer-turned =
@@ -200,5 +250,5 @@ module _ {R : Type 0} (P : Plan R) (L : Lawful P) (W : WellFormed P) where
             | inr e ↦
               let A = arrives (future P P.sink s) (future P P.sink s') P.sink i e (gave P.sink P.sink i (omega arith)) (D P.sink P.sink i (omega arith)) in
               let p = base-passed P L W P.sink i (view P s P.sink) (coming P s (future P P.sink s) P.sink) (coming P s' (future P P.sink s') P.sink) (s.phase P.sink) A in
-              subst (λ (X : View R). SameRows (fold_kept P L W P.sink) (answer P s) (base_by X.phase X (coming P s' (future P P.sink s') P.sink))) (T.others P.sink i e) p
+              subst (λ (X : View R). SameRows (fold_kept P L W P.sink) (answer P s) (base_by X.phase X (coming P s' (future P P.sink s') P.sink))) (view-agrees s s' P.sink (T.others P.sink i e)) p
           ]
