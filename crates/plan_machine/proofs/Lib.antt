@@ -6,3 +6,4 @@ pub mod Value
 pub mod Pass
 pub mod Turn
 pub mod Flight
+pub mod Fit
