@@ -7,3 +7,5 @@ pub mod Pass
 pub mod Turn
 pub mod Flight
 pub mod Fit
+pub mod Moved
+pub mod Claims

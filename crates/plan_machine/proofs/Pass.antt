@@ -89,6 +89,18 @@ module _ {R : Type 0} (P : Plan R) (L : Lawful P) (W : WellFormed P) where
       let m = weigh-same (λ x. H (whole_of (P.node n) b x)) (λ x. H (whole_of (P.node n) c x)) xs (λ x. t'.1 (whole_of (P.node n) b x) ∙ (L.nodes n i).part_same j b c x.rows s t'.0 ∙ sym (t'.1 (whole_of (P.node n) c x))) in
       omega arith
 
+  -- a node that folds the same gives the same
+  pub folding-same : (n : ℕ) → IsNode P n → (V V' : View R) (C C' : Coming R) → Folds (P.node n) → Same (fold_kept n) (all_folded V C) (all_folded V' C') → (fold_kept n ≡ true → IsDistinct (all_folded V C)) → (Streams (P.node n) → Same (stream_kept n) (all_streamed C) (all_streamed C')) → V.streamed ≡ V'.streamed → Same (P.node n).kept (future_by (P.node n) P.batch Folding V C) (future_by (P.node n) P.batch Folding V' C')
+  folding-same n i V V' C C' f s d st e =
+      let b : List R = gathered (all_folded V C) in
+      let c : List R = gathered (all_folded V' C') in
+      let g : SameRows (fold_kept n) b c = gathered-same L.equality (fold_kept n) (all_folded V C) (all_folded V' C') s d in
+      cond-same (P.node n).kept (P.node n).streams _ _ _ _
+      (λ j. Same-append (P.node n).kept _ _ _ _
+        (Same-trans (P.node n).kept _ _ _ (map-base n i (f, j) b c g (all_streamed C)) (map-whole n i (inr (f, j)) c (all_streamed C) (all_streamed C') (st (inr (f, j)))))
+        (tails-same (P.node n) P.batch b c _ _ W.batch (λ t. (L.nodes n i).rest_same f t b c _ _ g (SameSet-weigh _ _ (Same-rows (stream_kept n) (all_streamed C) (all_streamed C') (st (inr (f, j))))))))
+      (λ j. tails-same (P.node n) P.batch b c _ _ W.batch (λ t. (L.nodes n i).rest_same f t b c _ _ g (subst (λ (x : List (Batch R)). SameSet (rows_of V.streamed) (rows_of x)) e (SameSet-refl (rows_of V.streamed)))))
+
   module _ (n : ℕ) (i : IsNode P n) (V : View R) (C C' : Coming R) where
 
     all_streamed-same : (q : Phase) → Arrives n q V C C' → Streams (P.node n) → Same (stream_kept n) (all_streamed C) (all_streamed C')
@@ -112,24 +124,10 @@ module _ {R : Type 0} (P : Plan R) (L : Lawful P) (W : WellFormed P) where
     base-passed Sealed A = SameRows-refl (fold_kept n) V.built
     base-passed Done A = SameRows-refl (fold_kept n) V.built
 
-    streamed-set : (q : Phase) → Arrives n q V C C' → Streams (P.node n) → SameSet (rows_of (all_streamed C)) (rows_of (all_streamed C'))
-    streamed-set q A st = SameSet-weigh _ _ (Same-rows (stream_kept n) (all_streamed C) (all_streamed C') (all_streamed-same q A st))
-
     held-set : (q : Phase) → Arrives n q V C C' → Streams (P.node n) → SameSet (rows_of (V.held ++ all_streamed C)) (rows_of (V.held ++ all_streamed C'))
     held-set q A st =
         SameSet-weigh _ _ (Same-rows (stream_kept n) (V.held ++ all_streamed C) (V.held ++ all_streamed C')
         (Same-append (stream_kept n) V.held V.held (all_streamed C) (all_streamed C') (Same-refl (stream_kept n) V.held) (all_streamed-same q A st)))
-
-    joined-same : (A : Arrives n Folding V C C') → (P.node n).streams ≡ true → Same (P.node n).kept (joined_by (P.node n) P.batch (gathered (all_folded V C)) C) (joined_by (P.node n) P.batch (gathered (all_folded V C')) C')
-    joined-same A s =
-        let f : Folds (P.node n) = A.folds refl in
-        let j : IsJoin (P.node n) = (f, s) in
-        let b : List R = gathered (all_folded V C) in
-        let c : List R = gathered (all_folded V C') in
-        let e : SameRows (fold_kept n) b c = base-passed Folding A in
-        Same-append (P.node n).kept _ _ _ _
-        (Same-trans (P.node n).kept _ _ _ (map-base n i j b c e (all_streamed C)) (map-whole n i (inr j) c (all_streamed C) (all_streamed C') (all_streamed-same Folding A (inr j))))
-        (tails-same (P.node n) P.batch b c _ _ W.batch (λ t. (L.nodes n i).rest_same f t b c _ _ e (streamed-set Folding A (inr j))))
 
     streamed-same : (A : Arrives n Streaming V C C') → Same (P.node n).kept (streamed_by (P.node n) V.built C) (streamed_by (P.node n) V.built C')
     streamed-same A H t =
@@ -157,8 +155,7 @@ module _ {R : Type 0} (P : Plan R) (L : Lawful P) (W : WellFormed P) where
     pub future-passed : (q : Phase) → Arrives n q V C C' → Same (P.node n).kept (future_by (P.node n) P.batch q V C) (future_by (P.node n) P.batch q V C')
     future-passed Emitting A = Same-refl (P.node n).kept _
     future-passed Folding A =
-        cond-same (P.node n).kept (P.node n).streams _ _ _ _ (joined-same A)
-        (λ s. tails-same (P.node n) P.batch _ _ _ _ W.batch (λ t. (L.nodes n i).rest_same (A.folds refl) t _ _ _ _ (base-passed Folding A) (SameSet-refl (rows_of V.streamed))))
+        folding-same n i V V C C' (A.folds refl) (all_folded-same Folding A (A.folds refl)) (A.distinct refl) (all_streamed-same Folding A) refl
     future-passed Streaming A =
         Same-append (P.node n).kept V.given V.given _ _ (Same-refl (P.node n).kept V.given)
         (Same-append (P.node n).kept _ _ _ _ (streamed-same A)
