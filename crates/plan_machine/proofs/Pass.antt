@@ -101,6 +101,14 @@ module _ {R : Type 0} (P : Plan R) (L : Lawful P) (W : WellFormed P) where
         (tails-same (P.node n) P.batch b c _ _ W.batch (λ t. (L.nodes n i).rest_same f t b c _ _ g (SameSet-weigh _ _ (Same-rows (stream_kept n) (all_streamed C) (all_streamed C') (st (inr (f, j))))))))
       (λ j. tails-same (P.node n) P.batch b c _ _ W.batch (λ t. (L.nodes n i).rest_same f t b c _ _ g (subst (λ (x : List (Batch R)). SameSet (rows_of V.streamed) (rows_of x)) e (SameSet-refl (rows_of V.streamed)))))
 
+  -- only a join tails after it streamed
+  no_tails : (n : ℕ) → IsNode P n → Streams (P.node n) → (P.node n).tails ≡ true → IsJoin (P.node n)
+  no_tails n i (inl o) t = let e = (W.nodes n i).plain o in cc
+  no_tails n i (inr j) t = j
+
+  pub tails-set : (n : ℕ) → IsNode P n → Streams (P.node n) → (b ys zs : List R) → SameSet ys zs → Same (P.node n).kept (tails_by (P.node n) P.batch b ys) (tails_by (P.node n) P.batch b zs)
+  tails-set n i st b ys zs e = tails-same (P.node n) P.batch b b ys zs W.batch (λ t. (L.nodes n i).rest_same (no_tails n i st t).0 t b b ys zs (SameRows-refl (fold_kept n) b) e)
+
   module _ (n : ℕ) (i : IsNode P n) (V : View R) (C C' : Coming R) where
 
     all_streamed-same : (q : Phase) → Arrives n q V C C' → Streams (P.node n) → Same (stream_kept n) (all_streamed C) (all_streamed C')
@@ -148,10 +156,6 @@ module _ {R : Type 0} (P : Plan R) (L : Lawful P) (W : WellFormed P) where
         let k2 = weigh-map H (whole_of v V.built) C'.streamed_later in
         omega arith
 
-    no_tails : Streams (P.node n) → (P.node n).tails ≡ true → IsJoin (P.node n)
-    no_tails (inl o) t = let e = (W.nodes n i).plain o in cc
-    no_tails (inr j) t = j
-
     pub future-passed : (q : Phase) → Arrives n q V C C' → Same (P.node n).kept (future_by (P.node n) P.batch q V C) (future_by (P.node n) P.batch q V C')
     future-passed Emitting A = Same-refl (P.node n).kept _
     future-passed Folding A =
@@ -159,7 +163,7 @@ module _ {R : Type 0} (P : Plan R) (L : Lawful P) (W : WellFormed P) where
     future-passed Streaming A =
         Same-append (P.node n).kept V.given V.given _ _ (Same-refl (P.node n).kept V.given)
         (Same-append (P.node n).kept _ _ _ _ (streamed-same A)
-        (tails-same (P.node n) P.batch V.built V.built _ _ W.batch (λ t. (L.nodes n i).rest_same (no_tails (A.streams refl) t).0 t V.built V.built _ _ (SameRows-refl (fold_kept n) V.built) (held-set Streaming A (A.streams refl)))))
+        (tails-set n i (A.streams refl) V.built _ _ (held-set Streaming A (A.streams refl))))
     future-passed Tailing A = Same-refl (P.node n).kept _
     future-passed Sealed A = Same-refl (P.node n).kept []
     future-passed Done A = Same-refl (P.node n).kept []
