@@ -9,3 +9,4 @@ pub mod Flight
 pub mod Fit
 pub mod Moved
 pub mod Claims
+pub mod Deliveries

@@ -37,7 +37,7 @@ module _ {R : Type 0} where
   cond-same kept false x x' y y' f g = g refl
 
   -- a batch that is taken for the first time gives all that it has
-  fresh-remains : (v : Node R) (b : List R) (H : Batch R → ℕ) (xs : List (Batch R)) → weigh (λ x. x.from) xs ≡ 0 → weigh H (map (remains_of v b) xs) ≡ weigh H (map (whole_of v b) xs)
+  pub fresh-remains : (v : Node R) (b : List R) (H : Batch R → ℕ) (xs : List (Batch R)) → weigh (λ x. x.from) xs ≡ 0 → weigh H (map (remains_of v b) xs) ≡ weigh H (map (whole_of v b) xs)
   fresh-remains v b H [] z = refl
   fresh-remains v b H (x ∷ xs) z =
       let r = fresh-remains v b H xs (omega arith) in
