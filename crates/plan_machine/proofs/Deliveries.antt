@@ -15,7 +15,7 @@ use Rattle.plan_machine.specs.State.{State, Task, tail_rows}
 use Rattle.plan_machine.specs.Meaning.{SameRows, SameSet}
 use Rattle.plan_machine.specs.After.{landed, delivered, is_done, left_of, sent, back}
 use Rattle.plan_machine.specs.WellFormed.{Streams, Lawful, WellFormed, IsPlaced, IsInput}
-use Rattle.plan_machine.proofs.Weigh.{weigh-append, weigh-map, weigh-rows, weigh-take-drop, upd-here, upd-else, same_or, flat}
+use Rattle.plan_machine.proofs.Weigh.{weigh-append, weigh-flat, weigh-map, weigh-rows, weigh-take-drop, upd-here, upd-else, same_or, flat}
 use Rattle.plan_machine.proofs.Same.{Same, IsTest, SameRows-refl, SameRows-equal, SameSet-weigh, SameSet-refl, gathered-same}
 use Rattle.plan_machine.proofs.Pieces.{pieces_from}
 use Rattle.plan_machine.proofs.Value.{whole_of, remains_of, View, Coming, all_folded, all_streamed, streamed_by, joined_by, tails_by, view, coming, gives_of, holds_of, gives_by, holds_by, future_by}
@@ -256,3 +256,369 @@ module _ {R : Type 0} (P : Plan R) (L : Lawful P) (W : WellFormed P) where
           base = λ f K. gathered-same L.equality (fold_kept P L W a) (folded_all P L W s f a) (folded_all P L W s' f a) (λ H t. folded f H) (K.distinct p);
           folds = λ f q. (refl, λ H t. folded f H);
         }
+
+    -- A Seal: the node's rows are those of all batches that it folded.
+    module _ (jb : t.job ≡ Seal) (p : s.phase a ≡ Folding) (x : TaskFits P L W s a w t Seal) where
+
+      abbrev s5 : State R
+      s5 = landed P s w t Seal
+
+      abbrev q5 : Phase
+      q5 = phase_after_seal_of (P.node a).streams (P.node a).tails
+
+      fo5 : Folds (P.node a)
+      fo5 = F.started.folding a i p
+
+      phase5 : s5.phase a ≡ q5
+      phase5 = upd-here s.phase a q5
+
+      built5 : s5.built a ≡ gathered t.took
+      built5 = upd-here s.built a (gathered t.took)
+
+      gone5 : flying P done a ≡ []
+      gone5 = flying-gone P s.tasks w t t a iw busy refl x.0
+
+      all5 : (f : ℕ → List (Batch R)) → Known P L W s s5 f a → folded_all P L W s f a ≡ t.took
+      all5 f K =
+          let e = folds_input P W a i fo5 in
+          let b = e.before in
+          let d : s5.phase (folds_from P a) ≡ Done = upd-else s.phase a q5 (folds_from P a) (λ q. absurd (omega arith)) ∙ x.2.0 in
+          only_one _ _ _ _ t.took x.1 (ap (flat (holds_of P)) x.0 ∙ ap (λ (l : List (Batch R)). l ++ []) (ap (holds_by P t) jb)) x.2.1 (K.none (folds_from P a) e d)
+
+      base5 : (f : ℕ → List (Batch R)) → Known P L W s s5 f a → gathered (folded_all P L W s f a) ≡ s5.built a
+      base5 f K = ap (gathered {R = R}) (all5 f K) ∙ sym built5
+
+      given5 : (view P s5 a).given ≡ []
+      given5 = ap (flat (gives_of P)) gone5
+
+      held5 : (view P s5 a).held ≡ []
+      held5 = let y = ap (flat (holds_of P)) gone5 in let z = x.1 in rw (y, z) refl
+
+      around5 : Around P L W s s5 a []
+      around5 =
+          record {
+            others = λ m im ne. record { phase = sym (upd-else s.phase a q5 m ne); locals = refl; built = sym (upd-else s.built a (gathered t.took) m ne); streamed = refl; next = refl; flight = done-flight P L W s.tasks w t m busy ne };
+            added = λ e ie ne. none-new P L W a e (s.waiting e);
+          }
+
+      local5 : (q : Phase) → s5.phase a ≡ q → (q ≡ Folding → ⊥) → (q ≡ Done → ⊥) → (q ≡ Streaming → Streams (P.node a)) → Local P L W s s5 a []
+      local5 q e nf nd st =
+          record {
+            folding = λ z. fo5;
+            streaming = λ z. st (sym e ∙ z);
+            next_fold = λ z. absurd (nf (sym e ∙ z));
+            next_stream = λ z. F.next_fold a i p;
+            from_fold = λ z j. absurd (nf (sym e ∙ z));
+            here = λ v u iv b e'. absurd (none-flying P done a gone5 v u iv b e');
+            elsewhere = λ v u iv b ne. elsewhere v u b;
+            live = λ d. let z = sym p ∙ d in cc;
+          }
+
+      -- what the node gives as it streams is what it was to give
+      joined5 : (f : ℕ → List (Batch R)) → Known P L W s s5 f a → (P.node a).streams ≡ true → (H : Batch R → ℕ) → weigh H (future_by (P.node a) P.batch Folding (view P s a) (coming P s f a)) ≡ weigh H (future_by (P.node a) P.batch Streaming (view P s5 a) (coming P s5 f a))
+      joined5 f K j H =
+          let v : Node R = P.node a in
+          let C : Coming R = coming P s f a in
+          let b : List R = gathered (folded_all P L W s f a) in
+          let y = ap (λ z. weigh H (cond z (joined_by v P.batch b C) (tails_by v P.batch b (rows_of (s.streamed a))))) j in
+          let be : b ≡ s5.built a = base5 f K in
+          let y' = ap (λ z. weigh H (joined_by v P.batch z C)) be in
+          let m = weigh-append H (map (whole_of v (s5.built a)) (all_streamed C)) (tails_by v P.batch (s5.built a) (rows_of (all_streamed C))) in
+          let m1 = weigh-map H (whole_of v (s5.built a)) (all_streamed C) in
+          let m2 = weigh-append (λ x. H (whole_of v (s5.built a) x)) C.streamed_waiting C.streamed_later in
+          let m3 = weigh-map H (whole_of v (s5.built a)) C.streamed_waiting in
+          let m4 = weigh-map H (whole_of v (s5.built a)) C.streamed_later in
+          let fr = fresh-remains v (s5.built a) H C.streamed_waiting (F.from_fold a i p j) in
+          let n = weigh-append H (map (remains_of v (s5.built a)) C.streamed_waiting) (map (whole_of v (s5.built a)) C.streamed_later) in
+          let o = weigh-append H (streamed_by v (s5.built a) C) (tails_by v P.batch (s5.built a) (rows_of ((view P s5 a).held ++ all_streamed C))) in
+          let k = weigh-append H (view P s5 a).given (streamed_by v (s5.built a) C ++ tails_by v P.batch (s5.built a) (rows_of ((view P s5 a).held ++ all_streamed C))) in
+          let g = ap (weigh H) given5 in
+          let h = ap (λ (z : List (Batch R)). weigh H (tails_by v P.batch (s5.built a) (rows_of (z ++ all_streamed C)))) held5 in
+          omega arith
+
+      tailing5 : (f : ℕ → List (Batch R)) → Known P L W s s5 f a → (P.node a).streams ≡ false → (P.node a).tails ≡ true → (H : Batch R → ℕ) → weigh H (future_by (P.node a) P.batch Folding (view P s a) (coming P s f a)) ≡ weigh H (future_by (P.node a) P.batch Tailing (view P s5 a) (coming P s5 f a))
+      tailing5 f K j tl H =
+          let v : Node R = P.node a in
+          let C : Coming R = coming P s f a in
+          let b : List R = gathered (folded_all P L W s f a) in
+          let y = ap (λ z. weigh H (cond z (joined_by v P.batch b C) (tails_by v P.batch b (rows_of (s.streamed a))))) j in
+          let y' = ap (λ z. weigh H (cond z (pieces_from v.kept P.batch (v.rest b (rows_of (s.streamed a))) 0) [])) tl in
+          let e = ap (λ z. weigh H (pieces_from v.kept P.batch (v.rest z (rows_of (s.streamed a))) 0)) (base5 f K) in
+          let n = ap (λ z. weigh H (pieces_from v.kept P.batch (v.rest (s5.built a) (rows_of (s.streamed a))) z)) (F.next_fold a i p) in
+          let k = weigh-append H (view P s5 a).given (pieces_from v.kept P.batch (v.rest (s5.built a) (rows_of (s.streamed a))) (s.next a)) in
+          let g = ap (weigh H) given5 in
+          omega arith
+
+      sealed5 : (f : ℕ → List (Batch R)) → (P.node a).streams ≡ false → (P.node a).tails ≡ false → (H : Batch R → ℕ) → weigh H (future_by (P.node a) P.batch Folding (view P s a) (coming P s f a)) ≡ 0
+      sealed5 f j tl H =
+          let v : Node R = P.node a in
+          let C : Coming R = coming P s f a in
+          let b : List R = gathered (folded_all P L W s f a) in
+          let y = ap (λ z. weigh H (cond z (joined_by v P.batch b C) (tails_by v P.batch b (rows_of (s.streamed a))))) j in
+          let y' = ap (λ z. weigh H (cond z (pieces_from v.kept P.batch (v.rest b (rows_of (s.streamed a))) 0) [])) tl in
+          omega arith
+
+      pub seal-landed : Moved P L W s s5
+      seal-landed =
+          elim (true_or_false (P.node a).streams) [
+              inl j ↦
+                let e : s5.phase a ≡ Streaming = phase5 ∙ ap (λ z. phase_after_seal_of z (P.node a).tails) j in
+                record {
+                  at = a; new = []; fresh = refl; was = Folding; is = Streaming; before = p; after = e; around = around5;
+                  local = local5 Streaming e (λ z. cc) (λ z. cc) (λ z. inr (fo5, j));
+                  gives = λ f K H u. joined5 f K j H;
+                  base = λ f K. SameRows-equal (fold_kept P L W a) _ _ (base5 f K);
+                  folds = λ f z. cc;
+                }
+            | inr j ↦ elim (true_or_false (P.node a).tails) [
+                inl tl ↦
+                  let e : s5.phase a ≡ Tailing = phase5 ∙ ap (λ z. phase_after_seal_of z (P.node a).tails) j ∙ ap (λ z. phase_after_seal_of false z) tl in
+                  record {
+                    at = a; new = []; fresh = refl; was = Folding; is = Tailing; before = p; after = e; around = around5;
+                    local = local5 Tailing e (λ z. cc) (λ z. cc) (λ z. cc);
+                    gives = λ f K H u. tailing5 f K j tl H;
+                    base = λ f K. SameRows-equal (fold_kept P L W a) _ _ (base5 f K);
+                    folds = λ f z. cc;
+                  }
+              | inr tl ↦
+                  let e : s5.phase a ≡ Sealed = phase5 ∙ ap (λ z. phase_after_seal_of z (P.node a).tails) j ∙ ap (λ z. phase_after_seal_of false z) tl in
+                  record {
+                    at = a; new = []; fresh = refl; was = Folding; is = Sealed; before = p; after = e; around = around5;
+                    local = local5 Sealed e (λ z. cc) (λ z. cc) (λ z. cc);
+                    gives = λ f K H u. sealed5 f j tl H;
+                    base = λ f K. SameRows-equal (fold_kept P L W a) _ _ (base5 f K);
+                    folds = λ f z. cc;
+                  }
+            ]
+          ]
+
+    -- A Close: the batches that the node streamed are those of all workers.
+    module _ (jb : t.job ≡ Close) (p : s.phase a ≡ Streaming) (x : TaskFits P L W s a w t Close) where
+
+      abbrev s6 : State R
+      s6 = landed P s w t Close
+
+      st6 : Streams (P.node a)
+      st6 = F.started.streaming a i p
+
+      gone6 : flying P done a ≡ []
+      gone6 = flying-gone P s.tasks w t t a iw busy refl x.0
+
+      gives6 : (f : ℕ → List (Batch R)) → Known P L W s s6 f a → (H : Batch R → ℕ) → weigh H (future_by (P.node a) P.batch Streaming (view P s a) (coming P s f a)) ≡ weigh H (future_by (P.node a) P.batch Tailing (view P s6 a) (coming P s6 f a))
+      gives6 f K H =
+          let v : Node R = P.node a in
+          let C : Coming R = coming P s f a in
+          let e = streams_input P W a i st6 in
+          let eb = e.before in
+          let d : s6.phase (streams_from P a) ≡ Done = upd-else s.phase a Tailing (streams_from P a) (λ q. absurd (omega arith)) ∙ x.2.0 in
+          let later : f (streams_from P a) ≡ [] = K.none (streams_from P a) e d in
+          let whole : (view P s a).held ++ all_streamed C ≡ t.took =
+            only_one _ _ _ _ t.took x.1 (ap (flat (holds_of P)) x.0 ∙ ap (λ (l : List (Batch R)). l ++ []) (ap (holds_by P t) jb)) x.2.1 later in
+          let g : weigh H (view P s a).given ≡ 0 = ap (λ (z : List (Task R)). weigh H (flat (gives_of P) z)) x.0 ∙ ap (λ (l : List (Batch R)). weigh H (l ++ [])) (ap (gives_by P t) jb) in
+          let r1 = ap (λ (z : List (Batch R)). weigh H (map (remains_of v (s.built a)) z)) x.2.1 in
+          let r2 = ap (λ (z : List (Batch R)). weigh H (map (whole_of v (s.built a)) z)) later in
+          let n = weigh-append H (map (remains_of v (s.built a)) C.streamed_waiting) (map (whole_of v (s.built a)) C.streamed_later) in
+          let o = weigh-append H (streamed_by v (s.built a) C) (tails_by v P.batch (s.built a) (rows_of ((view P s a).held ++ all_streamed C))) in
+          let k = weigh-append H (view P s a).given (streamed_by v (s.built a) C ++ tails_by v P.batch (s.built a) (rows_of ((view P s a).held ++ all_streamed C))) in
+          let tl = ap (λ z. weigh H (cond z (pieces_from v.kept P.batch (v.rest (s.built a) (rows_of ((view P s a).held ++ all_streamed C))) 0) [])) x.3 in
+          let w1 = ap (λ (z : List (Batch R)). weigh H (pieces_from v.kept P.batch (v.rest (s.built a) (rows_of z)) 0)) whole in
+          let w2 = ap (λ (z : List (Batch R)). weigh H (pieces_from v.kept P.batch (v.rest (s.built a) (rows_of z)) 0)) (upd-here s.streamed a t.took) in
+          let w3 = ap (λ z. weigh H (pieces_from v.kept P.batch (v.rest (s.built a) (rows_of (s6.streamed a))) z)) (F.next_stream a i p) in
+          let g' = ap (λ (z : List (Task R)). weigh H (flat (gives_of P) z)) gone6 in
+          let k' = weigh-append H (view P s6 a).given (pieces_from v.kept P.batch (v.rest (s.built a) (rows_of (s6.streamed a))) (s.next a)) in
+          omega arith
+
+      pub close-landed : Moved P L W s s6
+      close-landed =
+          let e : s6.phase a ≡ Tailing = upd-here s.phase a Tailing in
+          record {
+            at = a; new = []; fresh = refl; was = Streaming; is = Tailing; before = p; after = e;
+            around =
+              record {
+                others = λ m im ne. record { phase = sym (upd-else s.phase a Tailing m ne); locals = refl; built = refl; streamed = sym (upd-else s.streamed a t.took m ne); next = refl; flight = done-flight P L W s.tasks w t m busy ne };
+                added = λ e ie ne. none-new P L W a e (s.waiting e);
+              };
+            local =
+              record {
+                folding = λ z. let y = sym e ∙ z in cc;
+                streaming = λ z. st6;
+                next_fold = λ z. let y = sym e ∙ z in cc;
+                next_stream = λ z. F.next_stream a i p;
+                from_fold = λ z j. let y = sym e ∙ z in cc;
+                here = λ v u iv b e'. absurd (none-flying P done a gone6 v u iv b e');
+                elsewhere = λ v u iv b ne. elsewhere v u b;
+                live = λ d. let z = sym p ∙ d in cc;
+              };
+            gives = λ f K H u. gives6 f K H;
+            base = λ f K. SameRows-refl (fold_kept P L W a) (s.built a);
+            folds = λ f z. cc;
+          }
+
+    -- A Stream: a part of the batch's output is given, and what is left goes back.
+    module _ (jb : t.job ≡ Stream) (p : s.phase a ≡ Streaming) (x : TaskFits P L W s a w t Stream) where
+
+      abbrev s7 : State R
+      s7 = landed P s w t Stream
+
+      abbrev e7 : ℕ
+      e7 = streams_from P a
+
+      st7 : Streams (P.node a)
+      st7 = F.started.streaming a i p
+
+      in7 : IsInput P a e7
+      in7 = streams_input P W a i st7
+
+      waiting7 : s7.waiting e7 ≡ back P t ++ s.waiting e7
+      waiting7 =
+          let b = in7.before in
+          upd-else (upd s.waiting e7 (back P t ++ s.waiting e7)) a (s.waiting a ++ sent P t ∷ []) e7 (λ q. absurd (omega arith)) ∙ upd-here s.waiting e7 (back P t ++ s.waiting e7)
+
+      added7 : (e : ℕ) → P.user e ≢ a → s7.waiting e ≡ s.waiting e ++ new_at a (sent P t ∷ []) e
+      added7 e ne =
+          elim (same_or e a) [
+              inl q ↦
+                ap s7.waiting q ∙ upd-here (upd s.waiting e7 (back P t ++ s.waiting e7)) a (s.waiting a ++ sent P t ∷ [])
+                ∙ (let z = ap (new_at a (sent P t ∷ [])) q ∙ upd-here (λ _. []) a (sent P t ∷ []) in let y = ap s.waiting q in cc)
+            | inr q ↦
+                upd-else (upd s.waiting e7 (back P t ++ s.waiting e7)) a (s.waiting a ++ sent P t ∷ []) e q
+                ∙ upd-else s.waiting e7 (back P t ++ s.waiting e7) e (λ z. ne (ap P.user z ∙ in7.user))
+                ∙ (let z = upd-else (λ _. []) a (sent P t ∷ []) e q in let y = append-nil (s.waiting e) in cc)
+          ]
+
+      -- what was left of the batch's output is what is sent and what is left then
+      sent7 : (H : Batch R → ℕ) → IsTest (P.node a).kept H → H (remains_of (P.node a) (s.built a) t.batch) ≡ H (sent P t) + weigh H (map (remains_of (P.node a) (s.built a)) (back P t))
+      sent7 H u =
+          elim (true_or_false (P.node a).cuts) [ inl c ↦ cut c | inr c ↦ uncut c ]
+        where
+          left : List R
+          left = left_of P t
+          same_left : drop t.batch.from ((P.node a).part (s.built a) t.batch.rows) ≡ left_of P t
+          same_left = ap (λ (b : List R). drop t.batch.from ((P.node a).part b t.batch.rows)) x.0
+          cut : (P.node a).cuts ≡ true → H (remains_of (P.node a) (s.built a) t.batch) ≡ H (sent P t) + weigh H (map (remains_of (P.node a) (s.built a)) (back P t))
+          cut c =
+              let k : (P.node a).kept ≡ false = (W.nodes a i).loose_cuts c in
+              let u' : IsTest false H = subst (λ (q : Bool). IsTest q H) k u in
+              let h : R → ℕ = u'.0 in
+              let a1 = u'.1 (remains_of (P.node a) (s.built a) t.batch) in
+              let a2 = ap (weigh h) same_left in
+              let a3 = u'.1 (sent P t) in
+              let a4 = ap (λ z. weigh h (cond z (take P.batch (left_of P t)) (left_of P t))) c in
+              let a5 = weigh-take-drop h P.batch (left_of P t) in
+              let a6 = ap (λ z. weigh H (map (remains_of (P.node a) (s.built a)) (cond (z && ltb P.batch (length (left_of P t))) (record { index = t.batch.index; rows = t.batch.rows; from = t.batch.from + P.batch } ∷ []) []))) c in
+              elim (leb_tells (suc P.batch) (length (left_of P t))) [
+                  inl q ↦
+                    let b1 = ap (λ z. weigh H (map (remains_of (P.node a) (s.built a)) (cond z (record { index = t.batch.index; rows = t.batch.rows; from = t.batch.from + P.batch } ∷ []) []))) q.0 in
+                    let b2 = u'.1 (remains_of (P.node a) (s.built a) (record { index = t.batch.index; rows = t.batch.rows; from = t.batch.from + P.batch })) in
+                    let b3 = ap (weigh h) (drop-drop P.batch t.batch.from ((P.node a).part (s.built a) t.batch.rows)) in
+                    let b4 = ap (λ (z : List R). weigh h (drop P.batch z)) same_left in
+                    omega arith
+                | inr q ↦
+                    let b1 = ap (λ z. weigh H (map (remains_of (P.node a) (s.built a)) (cond z (record { index = t.batch.index; rows = t.batch.rows; from = t.batch.from + P.batch } ∷ []) []))) q.0 in
+                    let b2 = ap (weigh h) (drop_of_length-le (left_of P t) {i = P.batch} (omega arith)) in
+                    omega arith
+              ]
+          uncut : (P.node a).cuts ≡ false → H (remains_of (P.node a) (s.built a) t.batch) ≡ H (sent P t) + weigh H (map (remains_of (P.node a) (s.built a)) (back P t))
+          uncut c =
+              let a1 = ap (λ z. H (record { index = marked (P.node a).kept t.batch.index; rows = z; from = 0 })) same_left in
+              let a2 = ap (λ z. H (record { index = marked (P.node a).kept t.batch.index; rows = cond z (take P.batch (left_of P t)) (left_of P t); from = 0 })) c in
+              let a6 = ap (λ z. weigh H (map (remains_of (P.node a) (s.built a)) (cond (z && ltb P.batch (length (left_of P t))) (record { index = t.batch.index; rows = t.batch.rows; from = t.batch.from + P.batch } ∷ []) []))) c in
+              omega arith
+
+      -- the rows that go back are among those that the node has taken
+      back7 : (h : R → ℕ) (b : Bool) → weigh (λ y. weigh h y.rows) (cond {A = List (Batch R)} b (record { index = t.batch.index; rows = t.batch.rows; from = t.batch.from + P.batch } ∷ []) []) ≤ weigh h t.batch.rows
+      back7 h true = omega arith
+      back7 h false = omega arith
+
+      set7 : (f : ℕ → List (Batch R)) → SameSet (rows_of ((view P s a).held ++ all_streamed (coming P s f a))) (rows_of ((view P s7 a).held ++ all_streamed (coming P s7 f a)))
+      set7 f h =
+          let r : Batch R → ℕ = λ y. weigh h y.rows in
+          let a1 = weigh-rows h ((view P s a).held ++ all_streamed (coming P s f a)) in
+          let a2 = weigh-rows h ((view P s7 a).held ++ all_streamed (coming P s7 f a)) in
+          let a3 = weigh-append r (view P s a).held (s.waiting e7 ++ f e7) in
+          let a4 = weigh-append r (view P s7 a).held (s7.waiting e7 ++ f e7) in
+          let a5 = weigh-append r (s.waiting e7) (f e7) in
+          let a6 = weigh-append r (s7.waiting e7) (f e7) in
+          let a7 = ap (weigh r) waiting7 in
+          let a8 = weigh-append r (back P t) (s.waiting e7) in
+          let b = back7 h ((P.node a).cuts && ltb P.batch (length (left_of P t))) in
+          let g = held-returned r x.1 (ap (holds_by P t) jb) in
+          let m = weigh-append r (gather P.workers (s.locals a)) (flat (holds_of P) (flying P s.tasks a)) in
+          let k = weigh-flat r (holds_of P) (flying P s.tasks a) in
+          let n = flying-has P (λ z. weigh r (holds_of P z)) s.tasks w t a iw busy refl in
+          let o = ap (weigh r) (ap (holds_by P t) jb) in
+          let q = weigh-append r t.took (t.batch ∷ []) in
+          ((λ z. omega arith), (λ z. omega arith))
+
+      gives7 : (f : ℕ → List (Batch R)) → Same (P.node a).kept (future_by (P.node a) P.batch Streaming (view P s a) (coming P s f a)) (sent P t ∷ future_by (P.node a) P.batch Streaming (view P s7 a) (coming P s7 f a))
+      gives7 f H u =
+          let v : Node R = P.node a in
+          let g = given-less H in
+          let g' = ap (weigh H) (ap (gives_by P t) jb) in
+          let g2 = ap (λ b. H (remains_of v b t.batch)) x.0 in
+          let sn = sent7 H u in
+          let r = tails-set P L W a i st7 (s.built a) _ _ (set7 f) H u in
+          let m = weigh-map H (remains_of v (s.built a)) (s.waiting e7) in
+          let m1 = ap (λ (z : List (Batch R)). weigh H (map (remains_of v (s.built a)) z)) waiting7 in
+          let m2 = weigh-map H (remains_of v (s.built a)) (back P t ++ s.waiting e7) in
+          let m3 = weigh-append (λ y. H (remains_of v (s.built a) y)) (back P t) (s.waiting e7) in
+          let m4 = weigh-map H (remains_of v (s.built a)) (back P t) in
+          let y = weigh-append H (map (remains_of v (s.built a)) (s.waiting e7)) (map (whole_of v (s.built a)) (f e7)) in
+          let y' = weigh-append H (map (remains_of v (s.built a)) (s7.waiting e7)) (map (whole_of v (s.built a)) (f e7)) in
+          let z = weigh-append H (streamed_by v (s.built a) (coming P s f a)) (tails_by v P.batch (s.built a) (rows_of ((view P s a).held ++ all_streamed (coming P s f a)))) in
+          let z' = weigh-append H (streamed_by v (s.built a) (coming P s7 f a)) (tails_by v P.batch (s.built a) (rows_of ((view P s7 a).held ++ all_streamed (coming P s7 f a)))) in
+          let k = weigh-append H (view P s a).given (streamed_by v (s.built a) (coming P s f a) ++ tails_by v P.batch (s.built a) (rows_of ((view P s a).held ++ all_streamed (coming P s f a)))) in
+          let k' = weigh-append H (view P s7 a).given (streamed_by v (s.built a) (coming P s7 f a) ++ tails_by v P.batch (s.built a) (rows_of ((view P s7 a).held ++ all_streamed (coming P s7 f a)))) in
+          omega arith
+
+      pub stream-landed : Moved P L W s s7
+      stream-landed =
+          record {
+            at = a; new = sent P t ∷ []; fresh = refl; was = Streaming; is = Streaming; before = p; after = p;
+            around =
+              record {
+                others = λ m im ne. record { phase = refl; locals = sym (upd-else s.locals a (upd (s.locals a) w (t.took ++ t.batch ∷ [])) m ne); built = refl; streamed = refl; next = refl; flight = done-flight P L W s.tasks w t m busy ne };
+                added = λ e ie ne. added7 e ne;
+              };
+            local =
+              record {
+                folding = λ q. F.started.folding a i q;
+                streaming = λ q. st7;
+                next_fold = λ q. F.next_fold a i q;
+                next_stream = λ q. F.next_stream a i q;
+                from_fold = λ q j. let z = sym p ∙ q in cc;
+                here = λ v u iv b e.
+                  let d = done-here P L W s.tasks w v u b in
+                  fits-same P L W s s7 v u refl (returned-else u.node v e d.0) refl (none_ends (ap works jb) v u e) (F.tasks v u iv d.1);
+                elsewhere = λ v u iv b ne. elsewhere v u b;
+                live = λ d. let z = sym p ∙ d in cc;
+              };
+            gives = λ f K. gives7 f;
+            base = λ f K. SameRows-refl (fold_kept P L W a) (s.built a);
+            folds = λ f q. cc;
+          }
+
+    landed-by : (j : Job) → t.job ≡ j → s.phase a ≡ phase_of j → TaskFits P L W s a w t j → Moved P L W s (landed P s w t j)
+    landed-by Emit e p x = emit-landed e p
+    landed-by Fold e p x = fold-landed e p x
+    landed-by Seal e p x = seal-landed e p x
+    landed-by Stream e p x = stream-landed e p x
+    landed-by Close e p x = close-landed e p x
+    landed-by Tail e p x = tail-landed e p
+
+    phase_live : (q : Phase) → (j : Job) → q ≡ phase_of j → is_done q ≡ false
+    phase_live q Emit e = ap is_done e
+    phase_live q Fold e = ap is_done e
+    phase_live q Seal e = ap is_done e
+    phase_live q Stream e = ap is_done e
+    phase_live q Close e = ap is_done e
+    phase_live q Tail e = ap is_done e
+
+    pub deliver-moved : s.failed ≡ false → Moved P L W s (delivered P s w (Some t))
+    deliver-moved sound =
+        let to : (b : Bool) → (s.failed || is_done (s.phase a)) ≡ b → Moved P L W s (cond b (record s { tasks = upd s.tasks w None }) (landed P s w t t.job)) → Moved P L W s (delivered P s w (Some t)) =
+          λ b e m. subst (λ (c : Bool). Moved P L W s (cond c (record s { tasks = upd s.tasks w None }) (landed P s w t t.job))) (sym e) m in
+        elim (F.tasks w t iw busy).1 [
+            inl d ↦ to true (ap (λ c. c || is_done (s.phase a)) sound ∙ ap is_done d) (drop-moved d)
+          | inr f ↦ to false (ap (λ c. c || is_done (s.phase a)) sound ∙ phase_live (s.phase a) t.job f.0) (landed-by t.job refl f.0 f.1)
+        ]

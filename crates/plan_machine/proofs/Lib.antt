@@ -10,3 +10,4 @@ pub mod Fit
 pub mod Moved
 pub mod Claims
 pub mod Deliveries
+pub mod Ends
