@@ -11,3 +11,5 @@ pub mod Moved
 pub mod Claims
 pub mod Deliveries
 pub mod Ends
+pub mod Folded
+pub mod Stops

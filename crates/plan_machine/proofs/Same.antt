@@ -114,7 +114,7 @@ module _ {R : Type 0} (E : Equality R) where
   abbrev is_batch : ℕ → List R → Batch R → ℕ
   is_batch i r b = cond (has_key i b) (cond (eq_rows b.rows r) 1 0) 0
 
-  none_there : (i : ℕ) (xs : List (Batch R)) → count_at i xs ≡ 0 → rows_at i xs ≡ []
+  pub none_there : (i : ℕ) (xs : List (Batch R)) → count_at i xs ≡ 0 → rows_at i xs ≡ []
   none_there i [] z = refl
   none_there i (x ∷ xs) z =
       elim (eqb_tells (key x) i) [
