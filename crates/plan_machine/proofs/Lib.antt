@@ -13,3 +13,6 @@ pub mod Deliveries
 pub mod Ends
 pub mod Folded
 pub mod Stops
+pub mod Opening
+pub mod Steps
+pub mod Kept

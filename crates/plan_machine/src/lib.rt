@@ -3,7 +3,9 @@
 #![tactic(auto)]
 
 mod entry;
+mod laws;
 mod shape;
 
 pub use entry::{Entry, Job, Phase, is_upkeep};
+pub use laws::rows_kept;
 pub use shape::{OpShape, first_phase, part_count, phase_after_seal};
