@@ -111,11 +111,9 @@ module _ {R : Type 0} (P : Plan R) (L : Lawful P) (W : WellFormed P) where
             let Q : ℕ → Type 0 = λ m. IsNode P m × ((s'.phase m ≡ Done) ⊎ ((s'.phase m ≡ phase_of x.job) × TaskFits P L W s' m w x x.job)) in
             subst Q (sym e) (Y.node, inr (ap (λ (g : ℕ → Phase). g n) ph ∙ sym j, f))
 
-    pub emit-moved : (k : ℕ) → CanDo P s n Emit k → Moved P L W s (claimed P s w n Emit k)
+    pub emit-moved : (k : ℕ) → CanDo P s n Emit k → Moved P L W s (claimed P s w n Emit k) n []
     emit-moved k c =
         record {
-          at = n;
-          new = [];
           fresh = refl;
           was = Emitting;
           is = Emitting;
@@ -132,11 +130,9 @@ module _ {R : Type 0} (P : Plan R) (L : Lawful P) (W : WellFormed P) where
           folds = λ f p. cc;
         }
 
-    pub tail-moved : (k : ℕ) → CanDo P s n Tail k → Moved P L W s (claimed P s w n Tail k)
+    pub tail-moved : (k : ℕ) → CanDo P s n Tail k → Moved P L W s (claimed P s w n Tail k) n []
     tail-moved k c =
         record {
-          at = n;
-          new = [];
           fresh = refl;
           was = Tailing;
           is = Tailing;
@@ -235,11 +231,9 @@ module _ {R : Type 0} (P : Plan R) (L : Lawful P) (W : WellFormed P) where
             live = λ d. let z = sym c.0 ∙ d in cc;
           }
 
-      pub fold-moved : Moved P L W s s1
+      pub fold-moved : Moved P L W s s1 n []
       fold-moved =
           record {
-            at = n;
-            new = [];
             fresh = refl;
             was = Folding;
             is = Folding;
@@ -291,11 +285,9 @@ module _ {R : Type 0} (P : Plan R) (L : Lawful P) (W : WellFormed P) where
             live = λ d. let z = sym c.0 ∙ d in cc;
           }
 
-      pub seal-moved : Moved P L W s s2
+      pub seal-moved : Moved P L W s s2 n []
       seal-moved =
           record {
-            at = n;
-            new = [];
             fresh = refl;
             was = Folding;
             is = Folding;
@@ -378,11 +370,9 @@ module _ {R : Type 0} (P : Plan R) (L : Lawful P) (W : WellFormed P) where
             live = λ d. let z = sym c.0 ∙ d in cc;
           }
 
-      pub stream-moved : Moved P L W s s3
+      pub stream-moved : Moved P L W s s3 n []
       stream-moved =
           record {
-            at = n;
-            new = [];
             fresh = refl;
             was = Streaming;
             is = Streaming;
@@ -444,11 +434,9 @@ module _ {R : Type 0} (P : Plan R) (L : Lawful P) (W : WellFormed P) where
             live = λ d. let z = sym c.0 ∙ d in cc;
           }
 
-      pub close-moved : Moved P L W s s4
+      pub close-moved : Moved P L W s s4 n []
       close-moved =
           record {
-            at = n;
-            new = [];
             fresh = refl;
             was = Streaming;
             is = Streaming;
@@ -465,7 +453,7 @@ module _ {R : Type 0} (P : Plan R) (L : Lawful P) (W : WellFormed P) where
             folds = λ f q. cc;
           }
 
-    pub claim-moved : (job : Job) (k : ℕ) → CanDo P s n job k → Moved P L W s (claimed P s w n job k)
+    pub claim-moved : (job : Job) (k : ℕ) → CanDo P s n job k → Moved P L W s (claimed P s w n job k) n []
     claim-moved Emit k c = emit-moved k c
     claim-moved Fold k c = fold-moved k c
     claim-moved Seal k c = seal-moved k c

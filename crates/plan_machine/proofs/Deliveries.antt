@@ -78,11 +78,9 @@ module _ {R : Type 0} (P : Plan R) (L : Lawful P) (W : WellFormed P) where
     elsewhere v u b = (done-here P L W s.tasks w v u b).1
 
     -- A task that is dropped, its node being Done.
-    pub drop-moved : s.phase a ≡ Done → Moved P L W s (record s { tasks = upd s.tasks w None })
+    pub drop-moved : s.phase a ≡ Done → Moved P L W s (record s { tasks = upd s.tasks w None }) t.node []
     drop-moved d =
         record {
-          at = a;
-          new = [];
           fresh = refl;
           was = Done;
           is = Done;
@@ -146,12 +144,16 @@ module _ {R : Type 0} (P : Plan R) (L : Lawful P) (W : WellFormed P) where
         let k = ap (weigh H) e in
         omega arith
 
-    pub emit-landed : t.job ≡ Emit → s.phase a ≡ Emitting → Moved P L W s (landed P s w t Emit)
+    abbrev pub emit_new : Batch R
+    emit_new = piece (P.node t.node).kept P.batch (P.node t.node).table t.number
+
+    abbrev pub tail_new : Batch R
+    tail_new = piece (P.node t.node).kept P.batch ((P.node t.node).rest t.built (rows_of t.streamed)) t.number
+
+    pub emit-landed : t.job ≡ Emit → s.phase a ≡ Emitting → Moved P L W s (landed P s w t Emit) t.node (emit_new ∷ [])
     emit-landed jb p =
         let b : Batch R = piece (P.node a).kept P.batch (P.node a).table t.number in
         record {
-          at = a;
-          new = b ∷ [];
           fresh = refl;
           was = Emitting;
           is = Emitting;
@@ -168,12 +170,10 @@ module _ {R : Type 0} (P : Plan R) (L : Lawful P) (W : WellFormed P) where
           folds = λ f q. cc;
         }
 
-    pub tail-landed : t.job ≡ Tail → s.phase a ≡ Tailing → Moved P L W s (landed P s w t Tail)
+    pub tail-landed : t.job ≡ Tail → s.phase a ≡ Tailing → Moved P L W s (landed P s w t Tail) t.node (tail_new ∷ [])
     tail-landed jb p =
         let b : Batch R = piece (P.node a).kept P.batch ((P.node a).rest t.built (rows_of t.streamed)) t.number in
         record {
-          at = a;
-          new = b ∷ [];
           fresh = refl;
           was = Tailing;
           is = Tailing;
@@ -217,7 +217,7 @@ module _ {R : Type 0} (P : Plan R) (L : Lawful P) (W : WellFormed P) where
         let n = works-of-ends u.job z in
         absurd (omega arith)
 
-    pub fold-landed : t.job ≡ Fold → s.phase a ≡ Folding → s.locals a w ≡ [] → Moved P L W s (landed P s w t Fold)
+    pub fold-landed : t.job ≡ Fold → s.phase a ≡ Folding → s.locals a w ≡ [] → Moved P L W s (landed P s w t Fold) t.node []
     fold-landed jb p l =
         let s' : State R = landed P s w t Fold in
         let fo : Folds (P.node a) = F.started.folding a i p in
@@ -227,8 +227,6 @@ module _ {R : Type 0} (P : Plan R) (L : Lawful P) (W : WellFormed P) where
           let x' = weigh-append H (view P s' a).held (s.waiting (folds_from P a) ++ f (folds_from P a)) in
           omega arith in
         record {
-          at = a;
-          new = [];
           fresh = refl;
           was = Folding;
           is = Folding;
@@ -358,13 +356,13 @@ module _ {R : Type 0} (P : Plan R) (L : Lawful P) (W : WellFormed P) where
           let y' = ap (λ z. weigh H (cond z (pieces_from v.kept P.batch (v.rest b (rows_of (s.streamed a))) 0) [])) tl in
           omega arith
 
-      pub seal-landed : Moved P L W s s5
+      pub seal-landed : Moved P L W s s5 t.node []
       seal-landed =
           elim (true_or_false (P.node a).streams) [
               inl j ↦
                 let e : s5.phase a ≡ Streaming = phase5 ∙ ap (λ z. phase_after_seal_of z (P.node a).tails) j in
                 record {
-                  at = a; new = []; fresh = refl; was = Folding; is = Streaming; before = p; after = e; around = around5;
+                  fresh = refl; was = Folding; is = Streaming; before = p; after = e; around = around5;
                   local = local5 Streaming e (λ z. cc) (λ z. cc) (λ z. inr (fo5, j));
                   gives = λ f K H u. joined5 f K j H;
                   base = λ f K. SameRows-equal (fold_kept P L W a) _ _ (base5 f K);
@@ -374,7 +372,7 @@ module _ {R : Type 0} (P : Plan R) (L : Lawful P) (W : WellFormed P) where
                 inl tl ↦
                   let e : s5.phase a ≡ Tailing = phase5 ∙ ap (λ z. phase_after_seal_of z (P.node a).tails) j ∙ ap (λ z. phase_after_seal_of false z) tl in
                   record {
-                    at = a; new = []; fresh = refl; was = Folding; is = Tailing; before = p; after = e; around = around5;
+                    fresh = refl; was = Folding; is = Tailing; before = p; after = e; around = around5;
                     local = local5 Tailing e (λ z. cc) (λ z. cc) (λ z. cc);
                     gives = λ f K H u. tailing5 f K j tl H;
                     base = λ f K. SameRows-equal (fold_kept P L W a) _ _ (base5 f K);
@@ -383,7 +381,7 @@ module _ {R : Type 0} (P : Plan R) (L : Lawful P) (W : WellFormed P) where
               | inr tl ↦
                   let e : s5.phase a ≡ Sealed = phase5 ∙ ap (λ z. phase_after_seal_of z (P.node a).tails) j ∙ ap (λ z. phase_after_seal_of false z) tl in
                   record {
-                    at = a; new = []; fresh = refl; was = Folding; is = Sealed; before = p; after = e; around = around5;
+                    fresh = refl; was = Folding; is = Sealed; before = p; after = e; around = around5;
                     local = local5 Sealed e (λ z. cc) (λ z. cc) (λ z. cc);
                     gives = λ f K H u. sealed5 f j tl H;
                     base = λ f K. SameRows-equal (fold_kept P L W a) _ _ (base5 f K);
@@ -428,11 +426,11 @@ module _ {R : Type 0} (P : Plan R) (L : Lawful P) (W : WellFormed P) where
           let k' = weigh-append H (view P s6 a).given (pieces_from v.kept P.batch (v.rest (s.built a) (rows_of (s6.streamed a))) (s.next a)) in
           omega arith
 
-      pub close-landed : Moved P L W s s6
+      pub close-landed : Moved P L W s s6 t.node []
       close-landed =
           let e : s6.phase a ≡ Tailing = upd-here s.phase a Tailing in
           record {
-            at = a; new = []; fresh = refl; was = Streaming; is = Tailing; before = p; after = e;
+            fresh = refl; was = Streaming; is = Tailing; before = p; after = e;
             around =
               record {
                 others = λ m im ne. record { phase = sym (upd-else s.phase a Tailing m ne); locals = refl; built = refl; streamed = sym (upd-else s.streamed a t.took m ne); next = refl; flight = done-flight P L W s.tasks w t m busy ne };
@@ -571,10 +569,10 @@ module _ {R : Type 0} (P : Plan R) (L : Lawful P) (W : WellFormed P) where
           let k' = weigh-append H (view P s7 a).given (streamed_by v (s.built a) (coming P s7 f a) ++ tails_by v P.batch (s.built a) (rows_of ((view P s7 a).held ++ all_streamed (coming P s7 f a)))) in
           omega arith
 
-      pub stream-landed : Moved P L W s s7
+      pub stream-landed : Moved P L W s s7 t.node (sent P t ∷ [])
       stream-landed =
           record {
-            at = a; new = sent P t ∷ []; fresh = refl; was = Streaming; is = Streaming; before = p; after = p;
+            fresh = refl; was = Streaming; is = Streaming; before = p; after = p;
             around =
               record {
                 others = λ m im ne. record { phase = refl; locals = sym (upd-else s.locals a (upd (s.locals a) w (t.took ++ t.batch ∷ [])) m ne); built = refl; streamed = refl; next = refl; flight = done-flight P L W s.tasks w t m busy ne };
@@ -598,27 +596,19 @@ module _ {R : Type 0} (P : Plan R) (L : Lawful P) (W : WellFormed P) where
             folds = λ f q. cc;
           }
 
-    landed-by : (j : Job) → t.job ≡ j → s.phase a ≡ phase_of j → TaskFits P L W s a w t j → Moved P L W s (landed P s w t j)
-    landed-by Emit e p x = emit-landed e p
-    landed-by Fold e p x = fold-landed e p x
-    landed-by Seal e p x = seal-landed e p x
-    landed-by Stream e p x = stream-landed e p x
-    landed-by Close e p x = close-landed e p x
-    landed-by Tail e p x = tail-landed e p
+    -- the batches that the delivery of a job gives
+    abbrev pub new_of : Job → List (Batch R)
+    new_of Emit = emit_new ∷ []
+    new_of Fold = []
+    new_of Seal = []
+    new_of Stream = sent P t ∷ []
+    new_of Close = []
+    new_of Tail = tail_new ∷ []
 
-    phase_live : (q : Phase) → (j : Job) → q ≡ phase_of j → is_done q ≡ false
-    phase_live q Emit e = ap is_done e
-    phase_live q Fold e = ap is_done e
-    phase_live q Seal e = ap is_done e
-    phase_live q Stream e = ap is_done e
-    phase_live q Close e = ap is_done e
-    phase_live q Tail e = ap is_done e
-
-    pub deliver-moved : s.failed ≡ false → Moved P L W s (delivered P s w (Some t))
-    deliver-moved sound =
-        let to : (b : Bool) → (s.failed || is_done (s.phase a)) ≡ b → Moved P L W s (cond b (record s { tasks = upd s.tasks w None }) (landed P s w t t.job)) → Moved P L W s (delivered P s w (Some t)) =
-          λ b e m. subst (λ (c : Bool). Moved P L W s (cond c (record s { tasks = upd s.tasks w None }) (landed P s w t t.job))) (sym e) m in
-        elim (F.tasks w t iw busy).1 [
-            inl d ↦ to true (ap (λ c. c || is_done (s.phase a)) sound ∙ ap is_done d) (drop-moved d)
-          | inr f ↦ to false (ap (λ c. c || is_done (s.phase a)) sound ∙ phase_live (s.phase a) t.job f.0) (landed-by t.job refl f.0 f.1)
-        ]
+    pub landed-moved : (j : Job) → t.job ≡ j → s.phase a ≡ phase_of j → TaskFits P L W s a w t j → Moved P L W s (landed P s w t j) t.node (new_of j)
+    landed-moved Emit e p x = emit-landed e p
+    landed-moved Fold e p x = fold-landed e p x
+    landed-moved Seal e p x = seal-landed e p x
+    landed-moved Stream e p x = stream-landed e p x
+    landed-moved Close e p x = close-landed e p x
+    landed-moved Tail e p x = tail-landed e p

@@ -30,10 +30,10 @@ module _ {R : Type 0} (P : Plan R) (L : Lawful P) (W : WellFormed P) where
       is_done : ended.phase n ≡ Done
       is_done = upd-here s.phase n Done
 
-      finished : (q : Phase) → s.phase n ≡ q → (q ≡ Folding → ⊥) → (q ≡ Done → ⊥) → ((f : ℕ → List (Batch R)) → Known P L W s ended f n → (H : Batch R → ℕ) → weigh H (future_by (P.node n) P.batch q (view P s n) (coming P s f n)) ≡ 0) → ((f : ℕ → List (Batch R)) → base_by q (view P s n) (coming P s f n) ≡ s.built n) → Moved P L W s ended
+      finished : (q : Phase) → s.phase n ≡ q → (q ≡ Folding → ⊥) → (q ≡ Done → ⊥) → ((f : ℕ → List (Batch R)) → Known P L W s ended f n → (H : Batch R → ℕ) → weigh H (future_by (P.node n) P.batch q (view P s n) (coming P s f n)) ≡ 0) → ((f : ℕ → List (Batch R)) → base_by q (view P s n) (coming P s f n) ≡ s.built n) → Moved P L W s ended n []
       finished q p nf nd g b =
           record {
-            at = n; new = []; fresh = refl; was = q; is = Done; before = p; after = is_done;
+            fresh = refl; was = q; is = Done; before = p; after = is_done;
             around =
               record {
                 others = λ m im ne. record { phase = sym (upd-else s.phase n Done m ne); locals = refl; built = refl; streamed = refl; next = refl; flight = refl };
@@ -82,7 +82,7 @@ module _ {R : Type 0} (P : Plan R) (L : Lawful P) (W : WellFormed P) where
           let g = none_given H in
           omega arith
 
-      finish-at : (q : Phase) → s.phase n ≡ q → MayFinish P s n q → Moved P L W s ended
+      finish-at : (q : Phase) → s.phase n ≡ q → MayFinish P s n q → Moved P L W s ended n []
       finish-at Emitting p m = finished Emitting p (λ z. cc) (λ z. cc) (λ f K H. all_given H (P.node n).table m) (λ f. refl)
       finish-at Folding p m = absurd m
       finish-at Streaming p m = finished Streaming p (λ z. cc) (λ z. cc) (all_streamed-given p m) (λ f. refl)
@@ -90,15 +90,15 @@ module _ {R : Type 0} (P : Plan R) (L : Lawful P) (W : WellFormed P) where
       finish-at Sealed p m = finished Sealed p (λ z. cc) (λ z. cc) (λ f K H. refl) (λ f. refl)
       finish-at Done p m = absurd m
 
-      pub finish-moved : MayFinish P s n (s.phase n) → Moved P L W s ended
+      pub finish-moved : MayFinish P s n (s.phase n) → Moved P L W s ended n []
       finish-moved m = finish-at (s.phase n) refl m
 
     -- an edge that is paused or goes on
-    pub paused-moved : (e : ℕ) → IsEdge P e → (b : Bool) → Moved P L W s (record s { paused = upd s.paused e b })
+    pub paused-moved : (e : ℕ) → IsEdge P e → (b : Bool) → Moved P L W s (record s { paused = upd s.paused e b }) e []
     paused-moved e ie b =
         let i : IsNode P e = (ie.0, (let z = ie.1 in omega arith)) in
         record {
-          at = e; new = []; fresh = refl; was = s.phase e; is = s.phase e; before = refl; after = refl;
+          fresh = refl; was = s.phase e; is = s.phase e; before = refl; after = refl;
           around =
             record {
               others = λ m im ne. record { phase = refl; locals = refl; built = refl; streamed = refl; next = refl; flight = refl };

@@ -16,3 +16,5 @@ pub mod Stops
 pub mod Opening
 pub mod Steps
 pub mod Kept
+pub mod Cost
+pub mod Spends

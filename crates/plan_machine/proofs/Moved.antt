@@ -20,9 +20,7 @@ use Rattle.plan_machine.proofs.Fit.{phase_of, TaskFits, InPhase, Fits, TaskFit, 
 
 module _ {R : Type 0} (P : Plan R) (L : Lawful P) (W : WellFormed P) where
 
-  pub record Moved (s s' : State R) : Type 0 where
-    pub at : ℕ
-    pub new : List (Batch R)
+  pub record Moved (s s' : State R) (at : ℕ) (new : List (Batch R)) : Type 0 where
     pub fresh : weigh (λ b. b.from) new ≡ 0
     pub was : Phase
     pub is : Phase
@@ -34,19 +32,16 @@ module _ {R : Type 0} (P : Plan R) (L : Lawful P) (W : WellFormed P) where
     pub base : (f : ℕ → List (Batch R)) → Known P L W s s' f at → SameRows (fold_kept P L W at) (base_by was (view P s at) (coming P s f at)) (base_by is (view P s' at) (coming P s' f at))
     pub folds : (f : ℕ → List (Batch R)) → is ≡ Folding → (was ≡ Folding) × Same (fold_kept P L W at) (folded_all P L W s f at) (folded_all P L W s' f at)
 
-  pub turn_of : (s s' : State R) → (M : Moved s s') → Turn P L W s s' M.at
-  turn_of s s' M =
+  pub turn_of : (s s' : State R) (a : ℕ) (new : List (Batch R)) → Moved s s' a new → Turn P L W s s' a new
+  turn_of s s' a new M =
       record {
-        new = M.new;
         fresh = M.fresh;
         others = M.around.others;
         added = M.around.added;
         gives = λ f K.
-          let a : ℕ = M.at in
-          let x = subst (λ (q : Phase). Same (P.node a).kept (future_by (P.node a) P.batch q (view P s a) (coming P s f a)) (M.new ++ future_by (P.node a) P.batch M.is (view P s' a) (coming P s' f a))) (sym M.before) (M.gives f K) in
-          subst (λ (q : Phase). Same (P.node a).kept (future_with P s f a) (M.new ++ future_by (P.node a) P.batch q (view P s' a) (coming P s' f a))) (sym M.after) x;
+          let x = subst (λ (q : Phase). Same (P.node a).kept (future_by (P.node a) P.batch q (view P s a) (coming P s f a)) (new ++ future_by (P.node a) P.batch M.is (view P s' a) (coming P s' f a))) (sym M.before) (M.gives f K) in
+          subst (λ (q : Phase). Same (P.node a).kept (future_with P s f a) (new ++ future_by (P.node a) P.batch q (view P s' a) (coming P s' f a))) (sym M.after) x;
         base = λ f K.
-          let a : ℕ = M.at in
           let x = subst (λ (q : Phase). SameRows (fold_kept P L W a) (base_by q (view P s a) (coming P s f a)) (base_by M.is (view P s' a) (coming P s' f a))) (sym M.before) (M.base f K) in
           subst (λ (q : Phase). SameRows (fold_kept P L W a) (base_with P s f a) (base_by q (view P s' a) (coming P s' f a))) (sym M.after) x;
         folds = λ f p. let z = M.folds f (sym M.after ∙ p) in (M.before ∙ z.0, z.1);
@@ -59,14 +54,14 @@ module _ {R : Type 0} (P : Plan R) (L : Lawful P) (W : WellFormed P) where
     pub distinct : AllDistinct P L W s
 
   -- After an entry that moves one node the state is as sound, and the rows of the sink are the same.
-  pub moved-sound : (s s' : State R) → Sound s → Moved s s' → Sound s' × SameRows (fold_kept P L W P.sink) (answer P s) (answer P s')
-  moved-sound s s' S M =
-      let T = turn_of s s' M in
+  pub moved-sound : (s s' : State R) (a : ℕ) (new : List (Batch R)) → Sound s → Moved s s' a new → Sound s' × SameRows (fold_kept P L W P.sink) (answer P s) (answer P s')
+  moved-sound s s' a new S M =
+      let T = turn_of s s' a new M in
       (record {
-          fit = fit-turned P L W s s' M.at M.new M.fresh M.around S.fit M.local;
-          distinct = AllDistinct-turned P L W s s' M.at S.fit.started T S.distinct;
+          fit = fit-turned P L W s s' a new M.fresh M.around S.fit M.local;
+          distinct = AllDistinct-turned P L W s s' a new S.fit.started T S.distinct;
         },
-      answer-turned P L W s s' M.at S.fit.started T S.distinct)
+      answer-turned P L W s s' a new S.fit.started T S.distinct)
 
   -- an entry that gives no batch
   nothing : {A : Type 0} (b : Bool) → cond {A = List A} b [] [] ≡ []

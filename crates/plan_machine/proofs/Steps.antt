@@ -7,6 +7,7 @@ use Rattle.plan_machine.specs.declared.entry.Job.TheVariants.{Emit, Fold, Seal, 
 use Rattle.plan_machine.specs.declared.entry.Entry.{Entry}
 use Rattle.plan_machine.specs.declared.entry.Entry.TheVariants.{Claim, Deliver, Pause, Resume, Finish, Stop, Fail}
 use Rattle.plan_machine.specs.Lists.{upd}
+use Rattle.plan_machine.specs.Batch.{Batch}
 use Rattle.plan_machine.specs.Plan.{Plan, Node, IsNode, IsWorker}
 use Rattle.plan_machine.specs.State.{State, Task, opening}
 use Rattle.plan_machine.specs.Enabled.{Enabled, Ready}
@@ -20,7 +21,7 @@ use Rattle.plan_machine.proofs.Pass.{fold_kept}
 use Rattle.plan_machine.proofs.Fit.{phase_of, TaskFits, Fit, fit-opening}
 use Rattle.plan_machine.proofs.Moved.{Moved, Sound, moved-sound}
 use Rattle.plan_machine.proofs.Claims.{claim-moved}
-use Rattle.plan_machine.proofs.Deliveries.{deliver-moved}
+use Rattle.plan_machine.proofs.Deliveries.{drop-moved, landed-moved, new_of}
 use Rattle.plan_machine.proofs.Ends.{finish-moved, paused-moved}
 use Rattle.plan_machine.proofs.Folded.{Folded, folded-opening, folded-claim, folded-drop, folded-landed, folded-finish}
 use Rattle.plan_machine.proofs.Stops.{fit-stopped, AllDistinct-stopped, answer-stopped, folded-stopped}
@@ -38,46 +39,53 @@ module _ {R : Type 0} (P : Plan R) (L : Lawful P) (W : WellFormed P) where
     pub good : Good s'
     pub same : SameRows (fold_kept P L W P.sink) (answer P s) (answer P s')
 
-  moved-on : (s s' : State R) → Good s → Moved P L W s s' → Folded P s' → GoesOn s s'
-  moved-on s s' G M F = let m = moved-sound P L W s s' G.sound M in record { good = record { sound = m.0; folded = F }; same = m.1 }
+  moved-on : (s s' : State R) (a : ℕ) (new : List (Batch R)) → Good s → Moved P L W s s' a new → Folded P s' → GoesOn s s'
+  moved-on s s' a new G M F = let m = moved-sound P L W s s' a new G.sound M in record { good = record { sound = m.0; folded = F }; same = m.1 }
 
-  folded-task : (s : State R) → Folded P s → (w : ℕ) (t : Task R) → IsWorker P w → s.tasks w ≡ Some t → Fit P L W s → s.failed ≡ false → Folded P (delivered P s w (Some t))
-  folded-task s G w t iw busy F sound =
-      let to : (b : Bool) → (s.failed || is_done (s.phase t.node)) ≡ b → Folded P (cond b (record s { tasks = upd s.tasks w None }) (landed P s w t t.job)) → Folded P (delivered P s w (Some t)) =
-        λ b e m. subst (λ (c : Bool). Folded P (cond c (record s { tasks = upd s.tasks w None }) (landed P s w t t.job))) (sym e) m in
+  live : (j : Job) (q : Phase) → q ≡ phase_of j → is_done q ≡ false
+  live Emit q e = ap is_done e
+  live Fold q e = ap is_done e
+  live Seal q e = ap is_done e
+  live Stream q e = ap is_done e
+  live Close q e = ap is_done e
+  live Tail q e = ap is_done e
+
+  list : (s : State R) (w : ℕ) (t : Task R) (j : Job) → TaskFits P L W s t.node w t j → j ≡ Fold → s.locals t.node w ≡ []
+  list s w t Emit f e = cc
+  list s w t Fold f e = f
+  list s w t Seal f e = cc
+  list s w t Stream f e = cc
+  list s w t Close f e = cc
+  list s w t Tail f e = cc
+
+  -- A delivery is dropped at a node that is Done, and else lands: what holds of both holds of it.
+  pub delivered-is : (Q : State R → Type 0) (s : State R) (w : ℕ) (t : Task R) → IsWorker P w → s.tasks w ≡ Some t → Fit P L W s → s.failed ≡ false
+    → (s.phase t.node ≡ Done → Q (record s { tasks = upd s.tasks w None })) → (s.phase t.node ≡ phase_of t.job → TaskFits P L W s t.node w t t.job → Q (landed P s w t t.job)) → Q (delivered P s w (Some t))
+  delivered-is Q s w t iw busy F sound drop land =
+      let to : (b : Bool) → (s.failed || is_done (s.phase t.node)) ≡ b → Q (cond b (record s { tasks = upd s.tasks w None }) (landed P s w t t.job)) → Q (delivered P s w (Some t)) =
+        λ b e m. subst (λ (c : Bool). Q (cond c (record s { tasks = upd s.tasks w None }) (landed P s w t t.job))) (sym e) m in
       elim (F.tasks w t iw busy).1 [
-          inl d ↦ to true (ap (λ c. c || is_done (s.phase t.node)) sound ∙ ap is_done d) (folded-drop P s G w iw t busy d)
-        | inr f ↦ to false (ap (λ c. c || is_done (s.phase t.node)) sound ∙ live t.job (s.phase t.node) f.0) (folded-landed P s G w iw t busy t.job f.0 (list t.job f.1))
+          inl d ↦ to true (ap (λ c. c || is_done (s.phase t.node)) sound ∙ ap is_done d) (drop d)
+        | inr f ↦ to false (ap (λ c. c || is_done (s.phase t.node)) sound ∙ live t.job (s.phase t.node) f.0) (land f.0 f.1)
       ]
-    where
-      live : (j : Job) (q : Phase) → q ≡ phase_of j → is_done q ≡ false
-      live Emit q e = ap is_done e
-      live Fold q e = ap is_done e
-      live Seal q e = ap is_done e
-      live Stream q e = ap is_done e
-      live Close q e = ap is_done e
-      live Tail q e = ap is_done e
-      list : (j : Job) → TaskFits P L W s t.node w t j → j ≡ Fold → s.locals t.node w ≡ []
-      list Emit f e = cc
-      list Fold f e = f
-      list Seal f e = cc
-      list Stream f e = cc
-      list Close f e = cc
-      list Tail f e = cc
 
   -- an entry after which the run hasn't failed
   pub step : (s : State R) (e : Entry) → Good s → s.failed ≡ false → Enabled P s e → (after P s e).failed ≡ false → GoesOn s (after P s e)
   unfolding after
   step s (Claim w n job k) G ok en ok' =
-      moved-on s (claimed P s w n job k) G (claim-moved P L W s G.sound.fit w n en.0 job k en.1) (folded-claim P s G.folded w en.0.worker n job k en.0.free)
+      moved-on s (claimed P s w n job k) n [] G (claim-moved P L W s G.sound.fit w n en.0 job k en.1) (folded-claim P s G.folded w en.0.worker n job k en.0.free)
   step s (Deliver w) G ok en ok' =
       let t : Task R = en.1.0 in
+      let F = G.sound.fit in
+      let b = en.1.1 in
       let x : GoesOn s (delivered P s w (Some t)) =
-        moved-on s (delivered P s w (Some t)) G (deliver-moved P L W s G.sound.fit w t en.0 en.1.1 ok) (folded-task s G.folded w t en.0 en.1.1 G.sound.fit ok) in
+        delivered-is (GoesOn s) s w t en.0 b F ok
+        (λ d. moved-on s (record s { tasks = upd s.tasks w None }) t.node [] G (drop-moved P L W s F w t en.0 b d) (folded-drop P s G.folded w en.0 t b d))
+        (λ p f. moved-on s (landed P s w t t.job) t.node (new_of P L W s F w t en.0 b t.job) G (landed-moved P L W s F w t en.0 b t.job refl p f) (folded-landed P s G.folded w en.0 t b t.job p (list s w t t.job f))) in
       subst (λ (o : Option (Task R)). GoesOn s (delivered P s w o)) (sym en.1.1) x
-  step s (Pause e) G ok en ok' = moved-on s (record s { paused = upd s.paused e true }) G (paused-moved P L W s G.sound.fit e en.1.0 true) G.folded
-  step s (Resume e) G ok en ok' = moved-on s (record s { paused = upd s.paused e false }) G (paused-moved P L W s G.sound.fit e en.1.0 false) G.folded
-  step s (Finish n) G ok en ok' = moved-on s (record s { phase = upd s.phase n Done }) G (finish-moved P L W s G.sound.fit n en.1 en.2 en.3) (folded-finish P s n G.folded)
+  step s (Pause e) G ok en ok' = moved-on s (record s { paused = upd s.paused e true }) e [] G (paused-moved P L W s G.sound.fit e en.1.0 true) G.folded
+  step s (Resume e) G ok en ok' = moved-on s (record s { paused = upd s.paused e false }) e [] G (paused-moved P L W s G.sound.fit e en.1.0 false) G.folded
+  step s (Finish n) G ok en ok' = moved-on s (record s { phase = upd s.phase n Done }) n [] G (finish-moved P L W s G.sound.fit n en.1 en.2 en.3) (folded-finish P s n G.folded)
   step s (Stop n) G ok en ok' =
       record {
         good =

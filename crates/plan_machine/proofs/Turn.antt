@@ -82,8 +82,7 @@ module _ {R : Type 0} (P : Plan R) (L : Lawful P) (W : WellFormed P) where
     pub distinct : DistinctAt s f a
 
   -- an entry at node a, which gives the batches `new`
-  pub record Turn (s s' : State R) (a : ℕ) : Type 0 where
-    pub new : List (Batch R)
+  pub record Turn (s s' : State R) (a : ℕ) (new : List (Batch R)) : Type 0 where
     pub fresh : weigh (λ x. x.from) new ≡ 0
     pub others : (n : ℕ) → IsNode P n → n ≢ a → Agree s s' n
     pub added : (e : ℕ) → IsEdge P e → P.user e ≢ a → s'.waiting e ≡ s.waiting e ++ new_at a new e
@@ -96,20 +95,20 @@ module _ {R : Type 0} (P : Plan R) (L : Lawful P) (W : WellFormed P) where
   future-done zero s e d = refl
   future-done (suc k) s e d = rw d refl
 
-  module _ (s s' : State R) (a : ℕ) (S : Started s) (T : Turn s s' a) where
+  module _ (s s' : State R) (a : ℕ) (new : List (Batch R)) (S : Started s) (T : Turn s s' a new) where
 
-    new_at-here : (n : ℕ) → n ≡ a → new_at a T.new n ≡ T.new
+    new_at-here : (n : ℕ) → n ≡ a → new_at a new n ≡ new
     new_at-here n e = elim (eqb_tells n a) [ inl q ↦ rw q.0 refl | inr q ↦ absurd (q.1 e) ]
 
-    new_at-else : (n : ℕ) → n ≢ a → new_at a T.new n ≡ []
+    new_at-else : (n : ℕ) → n ≢ a → new_at a new n ≡ []
     new_at-else n e = elim (eqb_tells n a) [ inl q ↦ absurd (e q.1) | inr q ↦ rw q.0 refl ]
 
-    fresh_at : (n : ℕ) → weigh (λ x. x.from) (new_at a T.new n) ≡ 0
+    fresh_at : (n : ℕ) → weigh (λ x. x.from) (new_at a new n) ≡ 0
     fresh_at n = elim (same_or n a) [ inl e ↦ rw (new_at-here n e) T.fresh | inr e ↦ rw (new_at-else n e) refl ]
 
     -- each input of node n gives what it gave, but for what is new on its edge
     abbrev Give : (f f' : ℕ → List (Batch R)) → ℕ → Type 0
-    Give f f' n = (e : ℕ) → IsInput P n e → Same (P.node e).kept (f e) (new_at a T.new e ++ f' e)
+    Give f f' n = (e : ℕ) → IsInput P n e → Same (P.node e).kept (f e) (new_at a new e ++ f' e)
 
     arrives : (f f' : ℕ → List (Batch R)) (n : ℕ) → IsNode P n → n ≢ a → Give f f' n → DistinctAt s f n → Arrives P L W n (s.phase n) (view P s n) (coming P s f n) (coming P s' f' n)
     arrives f f' n i ne g d =
@@ -120,14 +119,14 @@ module _ {R : Type 0} (P : Plan R) (L : Lawful P) (W : WellFormed P) where
             let p = folds_input P W n i fo in
             let e : ℕ = folds_from P n in
             let w = ap (weigh H) (T.added e (input_edge P W n e i p) (λ u. ne (sym p.user ∙ u))) in
-            let w' = weigh-append H (s.waiting e) (new_at a T.new e) in
+            let w' = weigh-append H (s.waiting e) (new_at a new e) in
             let x = weigh-append H (s.waiting e) (f e) in
             let y = weigh-append H (s'.waiting e) (f' e) in
             let z = g e p H t in
-            let z' = weigh-append H (new_at a T.new e) (f' e) in
+            let z' = weigh-append H (new_at a new e) (f' e) in
             omega arith;
           distinct = d;
-          new = new_at a T.new (streams_from P n);
+          new = new_at a new (streams_from P n);
           fresh = fresh_at (streams_from P n);
           waiting = λ st.
             let p = streams_input P W n i st in
@@ -142,7 +141,7 @@ module _ {R : Type 0} (P : Plan R) (L : Lawful P) (W : WellFormed P) where
         let near : (e : ℕ) → IsInput P a e → Same (P.node e).kept (f e) (f' e) = λ e p H t.
           let q = p.before in
           let z = ap (weigh H) (new_at-else e (λ w. absurd (omega arith))) in
-          let z' = weigh-append H (new_at a T.new e) (f' e) in
+          let z' = weigh-append H (new_at a new e) (f' e) in
           let x = g e p H t in
           omega arith in
         record {
@@ -170,7 +169,7 @@ module _ {R : Type 0} (P : Plan R) (L : Lawful P) (W : WellFormed P) where
     known : (f f' : ℕ → List (Batch R)) → IsNode P a → Give f f' a → ((e : ℕ) → s'.phase e ≡ Done → f' e ≡ []) → DistinctAt s f a → Known s s' f' a
     known f f' i g nil' d = record { none = λ e p. nil' e; distinct = nears-distinct f f' i g d }
 
-    gives-here : (f f' : ℕ → List (Batch R)) → IsNode P a → Give f f' a → ((e : ℕ) → s'.phase e ≡ Done → f' e ≡ []) → DistinctAt s f a → Same (P.node a).kept (future_with P s f a) (T.new ++ future_with P s' f' a)
+    gives-here : (f f' : ℕ → List (Batch R)) → IsNode P a → Give f f' a → ((e : ℕ) → s'.phase e ≡ Done → f' e ≡ []) → DistinctAt s f a → Same (P.node a).kept (future_with P s f a) (new ++ future_with P s' f' a)
     gives-here f f' i g nil' d =
         Same-trans (P.node a).kept _ _ _
         (future-passed P L W a i (view P s a) (coming P s f a) (coming P s f' a) (s.phase a) (nears f f' i g d))
@@ -183,10 +182,10 @@ module _ {R : Type 0} (P : Plan R) (L : Lawful P) (W : WellFormed P) where
         (T.base f' (known f f' i g nil' d))
 
     abbrev GivesHere : (f f' : ℕ → List (Batch R)) → ℕ → Type 0
-    GivesHere f f' m = IsNode P m → Give f f' m → DistinctAt s f m → Same (P.node m).kept (future_with P s f m) (new_at a T.new m ++ future_with P s' f' m)
+    GivesHere f f' m = IsNode P m → Give f f' m → DistinctAt s f m → Same (P.node m).kept (future_with P s f m) (new_at a new m ++ future_with P s' f' m)
 
     -- one level: what node n gives, given what its inputs give
-    level : (f f' : ℕ → List (Batch R)) (n : ℕ) → IsNode P n → Give f f' n → ((e : ℕ) → s'.phase e ≡ Done → f' e ≡ []) → DistinctAt s f n → Same (P.node n).kept (future_with P s f n) (new_at a T.new n ++ future_with P s' f' n)
+    level : (f f' : ℕ → List (Batch R)) (n : ℕ) → IsNode P n → Give f f' n → ((e : ℕ) → s'.phase e ≡ Done → f' e ≡ []) → DistinctAt s f n → Same (P.node n).kept (future_with P s f n) (new_at a new n ++ future_with P s' f' n)
     level f f' n i g nil' d =
         elim (same_or n a) [
             inl e ↦
@@ -202,7 +201,7 @@ module _ {R : Type 0} (P : Plan R) (L : Lawful P) (W : WellFormed P) where
 
     module _ (D : AllDistinct s) where
 
-      pub turned : (k n : ℕ) → IsNode P n → n ≤ k → Same (P.node n).kept (future P k s n) (new_at a T.new n ++ future P k s' n)
+      pub turned : (k n : ℕ) → IsNode P n → n ≤ k → Same (P.node n).kept (future P k s n) (new_at a new n ++ future P k s' n)
       unfolding future
       turned zero n i l = absurd (let z = i.0 in omega arith)
       turned (suc k) n i l =
