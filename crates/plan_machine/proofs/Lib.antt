@@ -18,3 +18,4 @@ pub mod Steps
 pub mod Kept
 pub mod Cost
 pub mod Spends
+pub mod Fewer

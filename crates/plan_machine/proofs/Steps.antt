@@ -97,7 +97,7 @@ module _ {R : Type 0} (P : Plan R) (L : Lawful P) (W : WellFormed P) where
       }
   step s (Fail w) G ok en ok' = cc
 
-  claimed-failed : (s : State R) (w n : ℕ) (job : Job) (k : ℕ) → (claimed P s w n job k).failed ≡ s.failed
+  pub claimed-failed : (s : State R) (w n : ℕ) (job : Job) (k : ℕ) → (claimed P s w n job k).failed ≡ s.failed
   claimed-failed s w n Emit k = refl
   claimed-failed s w n Fold k = refl
   claimed-failed s w n Seal k = refl
@@ -117,7 +117,7 @@ module _ {R : Type 0} (P : Plan R) (L : Lawful P) (W : WellFormed P) where
   dropped_or s w t true = refl
   dropped_or s w t false = landed-failed s w t t.job
 
-  delivered-failed : (s : State R) (w : ℕ) (o : Option (Task R)) → (delivered P s w o).failed ≡ s.failed
+  pub delivered-failed : (s : State R) (w : ℕ) (o : Option (Task R)) → (delivered P s w o).failed ≡ s.failed
   delivered-failed s w None = refl
   delivered-failed s w (Some t) = dropped_or s w t (s.failed || is_done (s.phase t.node))
 

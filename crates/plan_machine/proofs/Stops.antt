@@ -155,7 +155,7 @@ module _ {R : Type 0} (P : Plan R) (L : Lawful P) (W : WellFormed P) where
     i : IsNode P n
     i = can.node
 
-    fetch : Folds (P.node n) × ((P.node n).streams ≡ false) × ((P.node (folds_from P n)).kept ≡ true)
+    pub fetch : Folds (P.node n) × ((P.node n).streams ≡ false) × ((P.node (folds_from P n)).kept ≡ true)
     fetch = (W.nodes n i).fetch can.wanted can.is_fetch
 
     abbrev e0 : ℕ
@@ -164,13 +164,13 @@ module _ {R : Type 0} (P : Plan R) (L : Lawful P) (W : WellFormed P) where
     in0 : IsInput P n e0
     in0 = folds_input P W n i fetch.0
 
-    phase-same : (m : ℕ) → below P m n ≡ false → s'.phase m ≡ s.phase m
+    pub phase-same : (m : ℕ) → below P m n ≡ false → s'.phase m ≡ s.phase m
     phase-same m b = ap (λ c. cond c Done (s.phase m)) b
 
-    waiting-same : (m : ℕ) → below P m n ≡ false → s'.waiting m ≡ s.waiting m
+    pub waiting-same : (m : ℕ) → below P m n ≡ false → s'.waiting m ≡ s.waiting m
     waiting-same m b = ap (λ c. cond c [] (s.waiting m)) b
 
-    phase-done : (m : ℕ) → below P m n ≡ true → s'.phase m ≡ Done
+    pub phase-done : (m : ℕ) → below P m n ≡ true → s'.phase m ≡ Done
     phase-done m b = ap (λ c. cond c Done (s.phase m)) b
 
     -- what isn't Done isn't below
@@ -178,7 +178,7 @@ module _ {R : Type 0} (P : Plan R) (L : Lawful P) (W : WellFormed P) where
     goes_on m g = elim (true_or_false (below P m n)) [ inl b ↦ absurd (g (phase-done m b)) | inr b ↦ b ]
 
     -- nor are the inputs of another node that goes on
-    input_on : (m e : ℕ) → IsNode P m → m ≢ n → below P m n ≡ false → IsInput P m e → below P e n ≡ false
+    pub input_on : (m e : ℕ) → IsNode P m → m ≢ n → below P m n ≡ false → IsInput P m e → below P e n ≡ false
     input_on m e im ne b p =
         let x = leads-next n P.sink e (omega arith) (input_edge P W m e im p) in
         let u = p.user in
@@ -188,7 +188,7 @@ module _ {R : Type 0} (P : Plan R) (L : Lawful P) (W : WellFormed P) where
         ]
 
     -- the fetch's own input is below it
-    input_below : below P e0 n ≡ true
+    pub input_below : below P e0 n ≡ true
     input_below =
         let x = leads-next n P.sink e0 (omega arith) (input_edge P W n e0 i in0) in
         elim (eqb_tells (P.user e0) n) [
@@ -301,7 +301,7 @@ module _ {R : Type 0} (P : Plan R) (L : Lawful P) (W : WellFormed P) where
           omega arith
 
     -- each node that goes on gives what it gave
-    kept-future : (k m : ℕ) → IsNode P m → m ≤ k → below P m n ≡ false → Same (P.node m).kept (future P k s m) (future P k s' m)
+    pub kept-future : (k m : ℕ) → IsNode P m → m ≤ k → below P m n ≡ false → Same (P.node m).kept (future P k s m) (future P k s' m)
     unfolding future
     kept-future zero m im l b = absurd (let z = im.0 in omega arith)
     kept-future (suc k) m im l b =

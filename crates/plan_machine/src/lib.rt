@@ -7,5 +7,5 @@ mod laws;
 mod shape;
 
 pub use entry::{Entry, Job, Phase, is_upkeep};
-pub use laws::rows_kept;
+pub use laws::{no_more_entries, rows_kept};
 pub use shape::{OpShape, first_phase, part_count, phase_after_seal};
