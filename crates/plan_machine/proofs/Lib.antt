@@ -16,3 +16,12 @@ pub mod Stops
 pub mod Opening
 pub mod Steps
 pub mod Kept
+pub mod Sums
+pub mod BoundLoad
+pub mod StuckFits
+pub mod StuckWalk
+pub mod WitnessPlan
+pub mod WitnessRun
+pub mod WitnessStop
+pub mod WitnessStopRun
+pub mod DriverSearch

@@ -1,17 +1,17 @@
 -- Each entry keeps a state sound, and the rows that the sink will have.
-use Rattle.std.proofs.Common.{◌≡◌, ℕ, ◌+◌, ◌<◌, ◌≤◌, ◌⊎◌, inl, inr, Bool, true, false, cond, ◌||◌, List, [], ◌∷◌, Option, Some, None, refl, sym, ap, subst, arith, ◌∙◌}
+use Rattle.std.proofs.Common.{◌≡◌, ℕ, ◌⊎◌, inl, inr, Bool, true, false, cond, ◌||◌, List, [], ◌∷◌, Option, Some, None, refl, sym, ap, subst, ◌∙◌}
 use Rattle.plan_machine.specs.declared.entry.Phase.{Phase}
-use Rattle.plan_machine.specs.declared.entry.Phase.TheVariants.{Folding, Done}
+use Rattle.plan_machine.specs.declared.entry.Phase.TheVariants.{Done}
 use Rattle.plan_machine.specs.declared.entry.Job.{Job}
 use Rattle.plan_machine.specs.declared.entry.Job.TheVariants.{Emit, Fold, Seal, Stream, Close, Tail}
 use Rattle.plan_machine.specs.declared.entry.Entry.{Entry}
 use Rattle.plan_machine.specs.declared.entry.Entry.TheVariants.{Claim, Deliver, Pause, Resume, Finish, Stop, Fail}
 use Rattle.plan_machine.specs.Lists.{upd}
-use Rattle.plan_machine.specs.Plan.{Plan, Node, IsNode, IsWorker}
+use Rattle.plan_machine.specs.Plan.{Plan, IsWorker}
 use Rattle.plan_machine.specs.State.{State, Task, opening}
-use Rattle.plan_machine.specs.Enabled.{Enabled, Ready}
+use Rattle.plan_machine.specs.Enabled.{Enabled}
 use Rattle.plan_machine.specs.After.{after, claimed, landed, delivered, is_done}
-use Rattle.plan_machine.specs.History.{replay, IsLegal, IsEnded}
+use Rattle.plan_machine.specs.History.{replay, IsLegal}
 use Rattle.plan_machine.specs.Meaning.{SameRows}
 use Rattle.plan_machine.specs.WellFormed.{Lawful, WellFormed}
 use Rattle.plan_machine.proofs.Same.{SameRows-refl, SameRows-trans}
@@ -27,7 +27,6 @@ use Rattle.plan_machine.proofs.Stops.{fit-stopped, AllDistinct-stopped, answer-s
 use Rattle.plan_machine.proofs.Opening.{AllDistinct-opening}
 
 module _ {R : Type 0} (P : Plan R) (L : Lawful P) (W : WellFormed P) where
-
   -- all that is kept of a state that no Fail has met
   pub record Good (s : State R) : Type 0 where
     pub sound : Sound P L W s
@@ -44,9 +43,9 @@ module _ {R : Type 0} (P : Plan R) (L : Lawful P) (W : WellFormed P) where
   folded-task : (s : State R) → Folded P s → (w : ℕ) (t : Task R) → IsWorker P w → s.tasks w ≡ Some t → Fit P L W s → s.failed ≡ false → Folded P (delivered P s w (Some t))
   folded-task s G w t iw busy F sound =
       let to : (b : Bool) → (s.failed || is_done (s.phase t.node)) ≡ b → Folded P (cond b (record s { tasks = upd s.tasks w None }) (landed P s w t t.job)) → Folded P (delivered P s w (Some t)) =
-        λ b e m. subst (λ (c : Bool). Folded P (cond c (record s { tasks = upd s.tasks w None }) (landed P s w t t.job))) (sym e) m in
+      λ b e m. subst (λ (c : Bool). Folded P (cond c (record s { tasks = upd s.tasks w None }) (landed P s w t t.job))) (sym e) m in
       elim (F.tasks w t iw busy).1 [
-          inl d ↦ to true (ap (λ c. c || is_done (s.phase t.node)) sound ∙ ap is_done d) (folded-drop P s G w iw t busy d)
+        | inl d ↦ to true (ap (λ c. c || is_done (s.phase t.node)) sound ∙ ap is_done d) (folded-drop P s G w iw t busy d)
         | inr f ↦ to false (ap (λ c. c || is_done (s.phase t.node)) sound ∙ live t.job (s.phase t.node) f.0) (folded-landed P s G w iw t busy t.job f.0 (list t.job f.1))
       ]
     where
@@ -57,6 +56,7 @@ module _ {R : Type 0} (P : Plan R) (L : Lawful P) (W : WellFormed P) where
       live Stream q e = ap is_done e
       live Close q e = ap is_done e
       live Tail q e = ap is_done e
+
       list : (j : Job) → TaskFits P L W s t.node w t j → j ≡ Fold → s.locals t.node w ≡ []
       list Emit f e = cc
       list Fold f e = f
@@ -73,7 +73,7 @@ module _ {R : Type 0} (P : Plan R) (L : Lawful P) (W : WellFormed P) where
   step s (Deliver w) G ok en ok' =
       let t : Task R = en.1.0 in
       let x : GoesOn s (delivered P s w (Some t)) =
-        moved-on s (delivered P s w (Some t)) G (deliver-moved P L W s G.sound.fit w t en.0 en.1.1 ok) (folded-task s G.folded w t en.0 en.1.1 G.sound.fit ok) in
+      moved-on s (delivered P s w (Some t)) G (deliver-moved P L W s G.sound.fit w t en.0 en.1.1 ok) (folded-task s G.folded w t en.0 en.1.1 G.sound.fit ok) in
       subst (λ (o : Option (Task R)). GoesOn s (delivered P s w o)) (sym en.1.1) x
   step s (Pause e) G ok en ok' = moved-on s (record s { paused = upd s.paused e true }) G (paused-moved P L W s G.sound.fit e en.1.0 true) G.folded
   step s (Resume e) G ok en ok' = moved-on s (record s { paused = upd s.paused e false }) G (paused-moved P L W s G.sound.fit e en.1.0 false) G.folded
@@ -81,10 +81,10 @@ module _ {R : Type 0} (P : Plan R) (L : Lawful P) (W : WellFormed P) where
   step s (Stop n) G ok en ok' =
       record {
         good =
-          record {
-            sound = record { fit = fit-stopped P L W s G.sound.fit G.sound.distinct G.folded n en.1; distinct = AllDistinct-stopped P L W s G.sound.fit G.sound.distinct G.folded n en.1 };
-            folded = folded-stopped P L W s G.sound.fit G.sound.distinct G.folded n en.1;
-          };
+            record {
+              sound = record { fit = fit-stopped P L W s G.sound.fit G.sound.distinct G.folded n en.1; distinct = AllDistinct-stopped P L W s G.sound.fit G.sound.distinct G.folded n en.1 };
+              folded = folded-stopped P L W s G.sound.fit G.sound.distinct G.folded n en.1;
+            };
         same = answer-stopped P L W s G.sound.fit G.sound.distinct G.folded n en.1;
       }
   step s (Fail w) G ok en ok' = cc

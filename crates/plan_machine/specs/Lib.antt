@@ -13,3 +13,4 @@ pub mod WellFormed
 pub mod Bound
 pub mod Budget
 pub mod Laws
+pub mod Examples

@@ -8,5 +8,4 @@ ghost use Rattle.plan_machine.specs.Laws.{RowsKept};
 /// stands there as often in any case.
 pub fn rows_kept<R>()
     ensures { RowsKept R }
-{
-}
+{}

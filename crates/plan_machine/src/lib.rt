@@ -4,8 +4,10 @@
 
 mod entry;
 mod laws;
+mod limits;
 mod shape;
 
 pub use entry::{Entry, Job, Phase, is_upkeep};
 pub use laws::rows_kept;
+pub use limits::{bounded, never_stuck, premises_can_be_met, stopping_premises_can_be_met};
 pub use shape::{OpShape, first_phase, part_count, phase_after_seal};
