@@ -25,3 +25,9 @@ pub mod WitnessRun
 pub mod WitnessStop
 pub mod WitnessStopRun
 pub mod DriverSearch
+pub mod DriverHistory
+pub mod DriverUpkeep
+pub mod DriverClaim
+pub mod DriverGoes
+pub mod DriverOne
+pub mod DriverEnds

@@ -14,3 +14,4 @@ pub mod Bound
 pub mod Budget
 pub mod Laws
 pub mod Examples
+pub mod DriverLaws
