@@ -1,25 +1,24 @@
 -- Each claim moves one node and gives nothing yet.
-use Rattle.std.proofs.Common.{◌≡◌, ℕ, zero, suc, ◌+◌, ◌<◌, ◌≤◌, ◌≢◌, ◌⊎◌, inl, inr, Bool, true, false, cond, eqb, List, [], ◌∷◌, ◌++◌, length, map, Option, Some, None, refl, sym, ap, subst, arith, ◌∙◌, append-nil}
+use Rattle.std.proofs.Common.{◌≡◌, ℕ, ◌+◌, ◌<◌, ◌≢◌, ◌⊎◌, inl, inr, Bool, true, List, [], ◌∷◌, ◌++◌, length, map, Option, Some, refl, sym, ap, subst, arith, ◌∙◌}
 use Rattle.plan_machine.specs.declared.entry.Phase.{Phase}
-use Rattle.plan_machine.specs.declared.entry.Phase.TheVariants.{Emitting, Folding, Streaming, Tailing, Sealed, Done}
+use Rattle.plan_machine.specs.declared.entry.Phase.TheVariants.{Emitting, Folding, Streaming, Tailing, Done}
 use Rattle.plan_machine.specs.declared.entry.Job.{Job}
 use Rattle.plan_machine.specs.declared.entry.Job.TheVariants.{Emit, Fold, Seal, Stream, Close, Tail}
 use Rattle.plan_machine.specs.Lists.{upd, at_or, without, gather, weigh}
 use Rattle.plan_machine.specs.Batch.{Batch, blank, parts, piece, rows_of}
-use Rattle.plan_machine.specs.Plan.{Plan, Node, IsNode, IsWorker, Folds, folds_from, streams_from}
-use Rattle.plan_machine.specs.State.{State, Task, on_node, tasks_at, tail_rows, IsIdle, IsEndedEdge}
-use Rattle.plan_machine.specs.Meaning.{SameRows}
+use Rattle.plan_machine.specs.Plan.{Plan, Node, IsNode, Folds, folds_from, streams_from}
+use Rattle.plan_machine.specs.State.{State, Task, tail_rows}
 use Rattle.plan_machine.specs.Enabled.{Ready, CanDo}
 use Rattle.plan_machine.specs.After.{claimed, task_of}
-use Rattle.plan_machine.specs.WellFormed.{Streams, Lawful, WellFormed, IsPlaced, IsInput}
-use Rattle.plan_machine.proofs.Weigh.{weigh-append, weigh-map, weigh-without, upd-here, upd-else, same_or, flat, gather-nil}
-use Rattle.plan_machine.proofs.Same.{Same, IsTest, SameRows-refl, SameSet-weigh, Same-rows, gathered-same}
+use Rattle.plan_machine.specs.WellFormed.{Streams, Lawful, WellFormed}
+use Rattle.plan_machine.proofs.Weigh.{weigh-append, weigh-map, weigh-without, upd-here, upd-else, flat, gather-nil}
+use Rattle.plan_machine.proofs.Same.{Same, SameRows-refl, SameSet-weigh, Same-rows, gathered-same}
 use Rattle.plan_machine.proofs.Pieces.{pieces_from, pieces-next}
-use Rattle.plan_machine.proofs.Value.{whole_of, remains_of, View, Coming, all_folded, all_streamed, streamed_by, tails_by, view, coming, gives_of, holds_of, gives_by, holds_by, future_by}
-use Rattle.plan_machine.proofs.Pass.{fold_kept, stream_kept, folding-same, tails-set}
-use Rattle.plan_machine.proofs.Turn.{new_at, Started, Known, folds_input, streams_input, folded_all}
+use Rattle.plan_machine.proofs.Value.{whole_of, remains_of, all_streamed, streamed_by, tails_by, view, coming, gives_of, holds_of, future_by}
+use Rattle.plan_machine.proofs.Pass.{fold_kept, folding-same, tails-set}
+use Rattle.plan_machine.proofs.Turn.{folds_input, streams_input, folded_all}
 use Rattle.plan_machine.proofs.Flight.{ends, flying, flying-more, flying-alone, none-flying, locals-change}
-use Rattle.plan_machine.proofs.Fit.{phase_of, TaskFits, InPhase, Fits, TaskFit, Fit, Local, Around}
+use Rattle.plan_machine.proofs.Fit.{phase_of, TaskFits, TaskFit, Fit, Local}
 use Rattle.plan_machine.proofs.Moved.{Moved, none-new, given-weigh, held-weigh, fits-same, claim-elsewhere, claim-here, claim-flight}
 
 -- a batch that was to come is now in flight
@@ -47,7 +46,6 @@ pub empty_short : {A : Type 0} (xs : List A) (p : ℕ) → xs ≡ [] → p < len
 empty_short xs p e l = let z = ap length e in absurd (omega arith)
 
 module _ {R : Type 0} (P : Plan R) (L : Lawful P) (W : WellFormed P) where
-
   -- the edge that a seal or a closing waits for has ended, so no batch waits there
   pub seal_ended : (s : State R) (m v : ℕ) (u : Task R) (j : Job) → TaskFits P L W s m v u j → ends j ≡ 1 → phase_of j ≡ Folding → s.waiting (folds_from P m) ≡ []
   seal_ended s m v u Emit f e p = cc
@@ -66,7 +64,6 @@ module _ {R : Type 0} (P : Plan R) (L : Lawful P) (W : WellFormed P) where
   close_ended s m v u Tail f e p = cc
 
   module _ (s : State R) (F : Fit P L W s) (w n : ℕ) (Y : Ready P s w n) where
-
     -- what the tasks at the node give, and what it has taken, with one task more
     given-more : (H : Batch R → ℕ) (t : Task R) → t.node ≡ n → weigh H (flat (gives_of P) (flying P s.tasks n)) + weigh H (gives_of P t) ≡ weigh H (flat (gives_of P) (flying P (upd s.tasks w (Some t)) n))
     given-more H t e =
@@ -76,8 +73,8 @@ module _ {R : Type 0} (P : Plan R) (L : Lawful P) (W : WellFormed P) where
         omega arith
 
     held-more : (H : Batch R → ℕ) (t : Task R) (l' : ℕ → List (Batch R)) → t.node ≡ n →
-      weigh H (gather P.workers (s.locals n) ++ flat (holds_of P) (flying P s.tasks n)) + (weigh H (gather P.workers l') + weigh H (holds_of P t))
-      ≡ weigh H (gather P.workers l' ++ flat (holds_of P) (flying P (upd s.tasks w (Some t)) n)) + weigh H (gather P.workers (s.locals n))
+        weigh H (gather P.workers (s.locals n) ++ flat (holds_of P) (flying P s.tasks n)) + (weigh H (gather P.workers l') + weigh H (holds_of P t))
+        ≡ weigh H (gather P.workers l' ++ flat (holds_of P) (flying P (upd s.tasks w (Some t)) n)) + weigh H (gather P.workers (s.locals n))
     held-more H t l' e =
         let a = held-weigh P L W H (s.locals n) s.tasks n in
         let b = held-weigh P L W H l' (upd s.tasks w (Some t)) n in
@@ -94,9 +91,9 @@ module _ {R : Type 0} (P : Plan R) (L : Lawful P) (W : WellFormed P) where
           next_stream = λ p. absurd (neither Streaming p (λ x. cc) (λ x. cc));
           from_fold = λ p x. absurd (neither Folding p (λ x. cc) (λ x. cc));
           here = λ v u iv b e'. elim (claim-here P L W s.tasks w t v u (sym (ap (λ (g : ℕ → Option (Task R)). g v) ts) ∙ b)) [
-              inl z ↦ subst (λ (k : ℕ). TaskFit P L W s' k u) (sym z.0) (subst (λ (x : Task R). TaskFit P L W s' w x) z.1 (new_fits t e j f))
+            | inl z ↦ subst (λ (k : ℕ). TaskFit P L W s' k u) (sym z.0) (subst (λ (x : Task R). TaskFit P L W s' w x) z.1 (new_fits t e j f))
             | inr z ↦ fits-same P L W s s' v u (ap (λ (g : ℕ → Phase). g u.node) ph) (ap (λ (g : ℕ → ℕ → List (Batch R)). g u.node v) lo) (ap (λ (g : ℕ → List R). g u.node) bu)
-              (λ g. not_ends u.job (s.phase n) (sym g.0 ∙ ap s.phase e') q) (F.tasks v u iv z.1)
+                (λ g. not_ends u.job (s.phase n) (sym g.0 ∙ ap s.phase e') q) (F.tasks v u iv z.1)
           ];
           elsewhere = λ v u iv b ne. claim-elsewhere P L W s.tasks w t v u (sym (ap (λ (g : ℕ → Option (Task R)). g v) ts) ∙ b) (λ z. ne (z ∙ e));
           live = λ d. absurd (neither Done (ap (λ (g : ℕ → Phase). g n) ph ∙ d) (λ x. cc) (λ x. cc));
@@ -106,6 +103,7 @@ module _ {R : Type 0} (P : Plan R) (L : Lawful P) (W : WellFormed P) where
         neither r p a b =
             let x : s.phase n ≡ r = sym (ap (λ (g : ℕ → Phase). g n) ph) ∙ p in
             elim q [ inl y ↦ a (sym x ∙ y) | inr y ↦ b (sym x ∙ y) ]
+
         new_fits : (x : Task R) → x.node ≡ n → phase_of x.job ≡ s.phase n → TaskFits P L W s' n w x x.job → TaskFit P L W s' w x
         new_fits x e j f =
             let Q : ℕ → Type 0 = λ m. IsNode P m × ((s'.phase m ≡ Done) ⊎ ((s'.phase m ≡ phase_of x.job) × TaskFits P L W s' m w x x.job)) in
@@ -120,10 +118,10 @@ module _ {R : Type 0} (P : Plan R) (L : Lawful P) (W : WellFormed P) where
           before = c.0;
           after = c.0;
           around =
-            record {
-              others = λ m im ne. record { phase = refl; locals = refl; built = refl; streamed = refl; next = sym (upd-else s.next n (k + 1) m ne); flight = claim-flight P L W s.tasks w (task_of s n Emit k blank []) m Y.free ne };
-              added = λ e ie ne. none-new P L W n e (s.waiting e);
-            };
+              record {
+                others = λ m im ne. record { phase = refl; locals = refl; built = refl; streamed = refl; next = sym (upd-else s.next n (k + 1) m ne); flight = claim-flight P L W s.tasks w (task_of s n Emit k blank []) m Y.free ne };
+                added = λ e ie ne. none-new P L W n e (s.waiting e);
+              };
           local = count-local (task_of s n Emit k blank []) (claimed P s w n Emit k) refl (inl c.0) refl refl refl refl (sym c.0) tt;
           gives = λ f K H t. count-claimed (P.node n).kept P.batch (P.node n).table H _ _ k (s.next n) (upd s.next n (k + 1) n) c.1 (upd-here s.next n (k + 1)) c.2 (given-more H (task_of s n Emit k blank []) refl);
           base = λ f K. SameRows-refl (fold_kept P L W n) (s.built n);
@@ -139,10 +137,10 @@ module _ {R : Type 0} (P : Plan R) (L : Lawful P) (W : WellFormed P) where
           before = c.0;
           after = c.0;
           around =
-            record {
-              others = λ m im ne. record { phase = refl; locals = refl; built = refl; streamed = refl; next = sym (upd-else s.next n (k + 1) m ne); flight = claim-flight P L W s.tasks w (task_of s n Tail k blank []) m Y.free ne };
-              added = λ e ie ne. none-new P L W n e (s.waiting e);
-            };
+              record {
+                others = λ m im ne. record { phase = refl; locals = refl; built = refl; streamed = refl; next = sym (upd-else s.next n (k + 1) m ne); flight = claim-flight P L W s.tasks w (task_of s n Tail k blank []) m Y.free ne };
+                added = λ e ie ne. none-new P L W n e (s.waiting e);
+              };
           local = count-local (task_of s n Tail k blank []) (claimed P s w n Tail k) refl (inr c.0) refl refl refl refl (sym c.0) tt;
           gives = λ f K H t. count-claimed (P.node n).kept P.batch (tail_rows P s n) H _ _ k (s.next n) (upd s.next n (k + 1) n) c.1 (upd-here s.next n (k + 1)) c.2 (given-more H (task_of s n Tail k blank []) refl);
           base = λ f K. SameRows-refl (fold_kept P L W n) (s.built n);
@@ -190,7 +188,6 @@ module _ {R : Type 0} (P : Plan R) (L : Lawful P) (W : WellFormed P) where
     two_edges f (inr j) = λ e. (W.nodes n Y.node).apart j (e ∙ (let z = j.1 in rw z refl))
 
     module _ (p : ℕ) (c : CanDo P s n Fold p) where
-
       abbrev e1 : ℕ
       e1 = folds_from P n
 
@@ -223,9 +220,9 @@ module _ {R : Type 0} (P : Plan R) (L : Lawful P) (W : WellFormed P) where
             next_stream = λ q. F.next_stream n Y.node q;
             from_fold = λ q j. ap (weigh (λ b. b.from)) (upd-else s.waiting e1 (without p (s.waiting e1)) (streams_from P n) (two_edges f1 (inr (f1, j)))) ∙ F.from_fold n Y.node q j;
             here = λ v u iv b e. elim (claim-here P L W s.tasks w t1 v u b) [
-                inl z ↦ subst (λ (k : ℕ). TaskFit P L W s1 k u) (sym z.0) (subst (λ (x : Task R). TaskFit P L W s1 w x) z.1 (Y.node, inr (c.0, left-here n refl)))
+              | inl z ↦ subst (λ (k : ℕ). TaskFit P L W s1 k u) (sym z.0) (subst (λ (x : Task R). TaskFit P L W s1 w x) z.1 (Y.node, inr (c.0, left-here n refl)))
               | inr z ↦ fits-same P L W s s1 v u refl (left-else u.node v e z.0) refl
-                (λ g ends. empty_short (s.waiting e1) p (ap (λ k. s.waiting (folds_from P k)) (sym e) ∙ seal_ended s u.node v u u.job g.1 ends (sym g.0 ∙ ap s.phase e ∙ c.0)) c.1) (F.tasks v u iv z.1)
+                  (λ g ends. empty_short (s.waiting e1) p (ap (λ k. s.waiting (folds_from P k)) (sym e) ∙ seal_ended s u.node v u u.job g.1 ends (sym g.0 ∙ ap s.phase e ∙ c.0)) c.1) (F.tasks v u iv z.1)
             ];
             elsewhere = λ v u iv b ne. claim-elsewhere P L W s.tasks w t1 v u b ne;
             live = λ d. let z = sym c.0 ∙ d in cc;
@@ -240,19 +237,18 @@ module _ {R : Type 0} (P : Plan R) (L : Lawful P) (W : WellFormed P) where
             before = c.0;
             after = c.0;
             around =
-              record {
-                others = λ m im ne. record { phase = refl; locals = sym (upd-else s.locals n (upd (s.locals n) w []) m ne); built = refl; streamed = refl; next = refl; flight = claim-flight P L W s.tasks w t1 m Y.free ne };
-                added = λ e ie ne. upd-else s.waiting e1 (without p (s.waiting e1)) e (λ q. ne (ap P.user q ∙ (folds_input P W n Y.node f1).user)) ∙ none-new P L W n e (s.waiting e);
-              };
+                record {
+                  others = λ m im ne. record { phase = refl; locals = sym (upd-else s.locals n (upd (s.locals n) w []) m ne); built = refl; streamed = refl; next = refl; flight = claim-flight P L W s.tasks w t1 m Y.free ne };
+                  added = λ e ie ne. upd-else s.waiting e1 (without p (s.waiting e1)) e (λ q. ne (ap P.user q ∙ (folds_input P W n Y.node f1).user)) ∙ none-new P L W n e (s.waiting e);
+                };
             local = local1;
             gives = λ f K. folding-same P L W n Y.node (view P s n) (view P s1 n) (coming P s f n) (coming P s1 f n) f1 (λ H t. folded1 f H) (K.distinct c.0)
-              (λ st H t. ap (λ (x : List (Batch R)). weigh H (x ++ f (streams_from P n))) (sym (upd-else s.waiting e1 (without p (s.waiting e1)) (streams_from P n) (two_edges f1 st)))) refl;
+                (λ st H t. ap (λ (x : List (Batch R)). weigh H (x ++ f (streams_from P n))) (sym (upd-else s.waiting e1 (without p (s.waiting e1)) (streams_from P n) (two_edges f1 st)))) refl;
             base = λ f K. gathered-same L.equality (fold_kept P L W n) (folded_all P L W s f n) (folded_all P L W s1 f n) (λ H t. folded1 f H) (K.distinct c.0);
             folds = λ f q. (refl, λ H t. folded1 f H);
           }
 
     module _ (k : ℕ) (c : CanDo P s n Seal k) where
-
       abbrev t2 : Task R
       t2 = task_of s n Seal k blank (gather P.workers (s.locals n))
 
@@ -278,7 +274,7 @@ module _ {R : Type 0} (P : Plan R) (L : Lawful P) (W : WellFormed P) where
             next_stream = λ q. F.next_stream n Y.node q;
             from_fold = λ q j. F.from_fold n Y.node q j;
             here = λ v u iv b e. elim (claim-here P L W s.tasks w t2 v u b) [
-                inl z ↦ subst (λ (k : ℕ). TaskFit P L W s2 k u) (sym z.0) (subst (λ (x : Task R). TaskFit P L W s2 w x) z.1 (Y.node, inr (c.0, (flying-alone P s.tasks w t2 n Y.worker refl c.1, emptied-none, c.2))))
+              | inl z ↦ subst (λ (k : ℕ). TaskFit P L W s2 k u) (sym z.0) (subst (λ (x : Task R). TaskFit P L W s2 w x) z.1 (Y.node, inr (c.0, (flying-alone P s.tasks w t2 n Y.worker refl c.1, emptied-none, c.2))))
               | inr z ↦ absurd (none-flying P s.tasks n c.1 v u iv z.1 e)
             ];
             elsewhere = λ v u iv b ne. claim-elsewhere P L W s.tasks w t2 v u b ne;
@@ -294,10 +290,10 @@ module _ {R : Type 0} (P : Plan R) (L : Lawful P) (W : WellFormed P) where
             before = c.0;
             after = c.0;
             around =
-              record {
-                others = λ m im ne. record { phase = refl; locals = sym (upd-else s.locals n (λ _. []) m ne); built = refl; streamed = refl; next = refl; flight = claim-flight P L W s.tasks w t2 m Y.free ne };
-                added = λ e ie ne. none-new P L W n e (s.waiting e);
-              };
+                record {
+                  others = λ m im ne. record { phase = refl; locals = sym (upd-else s.locals n (λ _. []) m ne); built = refl; streamed = refl; next = refl; flight = claim-flight P L W s.tasks w t2 m Y.free ne };
+                  added = λ e ie ne. none-new P L W n e (s.waiting e);
+                };
             local = local2;
             gives = λ f K. folding-same P L W n Y.node (view P s n) (view P s2 n) (coming P s f n) (coming P s2 f n) f2 (λ H t. folded2 f H) (K.distinct c.0) (λ st H t. refl) refl;
             base = λ f K. gathered-same L.equality (fold_kept P L W n) (folded_all P L W s f n) (folded_all P L W s2 f n) (λ H t. folded2 f H) (K.distinct c.0);
@@ -305,7 +301,6 @@ module _ {R : Type 0} (P : Plan R) (L : Lawful P) (W : WellFormed P) where
           }
 
     module _ (p : ℕ) (c : CanDo P s n Stream p) where
-
       abbrev e3 : ℕ
       e3 = streams_from P n
 
@@ -362,9 +357,9 @@ module _ {R : Type 0} (P : Plan R) (L : Lawful P) (W : WellFormed P) where
             next_stream = λ q. F.next_stream n Y.node q;
             from_fold = λ q j. let z = sym c.0 ∙ q in cc;
             here = λ v u iv b e. elim (claim-here P L W s.tasks w t3 v u b) [
-                inl z ↦ subst (λ (k : ℕ). TaskFit P L W s3 k u) (sym z.0) (subst (λ (x : Task R). TaskFit P L W s3 w x) z.1 (Y.node, inr (c.0, (refl, left-here n refl))))
+              | inl z ↦ subst (λ (k : ℕ). TaskFit P L W s3 k u) (sym z.0) (subst (λ (x : Task R). TaskFit P L W s3 w x) z.1 (Y.node, inr (c.0, (refl, left-here n refl))))
               | inr z ↦ fits-same P L W s s3 v u refl (left-else u.node v e z.0) refl
-                (λ g ends. empty_short (s.waiting e3) p (ap (λ k. s.waiting (streams_from P k)) (sym e) ∙ close_ended s u.node v u u.job g.1 ends (sym g.0 ∙ ap s.phase e ∙ c.0)) c.1) (F.tasks v u iv z.1)
+                  (λ g ends. empty_short (s.waiting e3) p (ap (λ k. s.waiting (streams_from P k)) (sym e) ∙ close_ended s u.node v u u.job g.1 ends (sym g.0 ∙ ap s.phase e ∙ c.0)) c.1) (F.tasks v u iv z.1)
             ];
             elsewhere = λ v u iv b ne. claim-elsewhere P L W s.tasks w t3 v u b ne;
             live = λ d. let z = sym c.0 ∙ d in cc;
@@ -379,10 +374,10 @@ module _ {R : Type 0} (P : Plan R) (L : Lawful P) (W : WellFormed P) where
             before = c.0;
             after = c.0;
             around =
-              record {
-                others = λ m im ne. record { phase = refl; locals = sym (upd-else s.locals n (upd (s.locals n) w []) m ne); built = refl; streamed = refl; next = refl; flight = claim-flight P L W s.tasks w t3 m Y.free ne };
-                added = λ e ie ne. upd-else s.waiting e3 (without p (s.waiting e3)) e (λ q. ne (ap P.user q ∙ (streams_input P W n Y.node st3).user)) ∙ none-new P L W n e (s.waiting e);
-              };
+                record {
+                  others = λ m im ne. record { phase = refl; locals = sym (upd-else s.locals n (upd (s.locals n) w []) m ne); built = refl; streamed = refl; next = refl; flight = claim-flight P L W s.tasks w t3 m Y.free ne };
+                  added = λ e ie ne. upd-else s.waiting e3 (without p (s.waiting e3)) e (λ q. ne (ap P.user q ∙ (streams_input P W n Y.node st3).user)) ∙ none-new P L W n e (s.waiting e);
+                };
             local = local3;
             gives = λ f K. gives3 f;
             base = λ f K. SameRows-refl (fold_kept P L W n) (s.built n);
@@ -390,7 +385,6 @@ module _ {R : Type 0} (P : Plan R) (L : Lawful P) (W : WellFormed P) where
           }
 
     module _ (k : ℕ) (c : CanDo P s n Close k) where
-
       abbrev t4 : Task R
       t4 = task_of s n Close k blank (gather P.workers (s.locals n))
 
@@ -427,7 +421,7 @@ module _ {R : Type 0} (P : Plan R) (L : Lawful P) (W : WellFormed P) where
             next_stream = λ q. F.next_stream n Y.node q;
             from_fold = λ q j. let z = sym c.0 ∙ q in cc;
             here = λ v u iv b e. elim (claim-here P L W s.tasks w t4 v u b) [
-                inl z ↦ subst (λ (k : ℕ). TaskFit P L W s4 k u) (sym z.0) (subst (λ (x : Task R). TaskFit P L W s4 w x) z.1 (Y.node, inr (c.0, (flying-alone P s.tasks w t4 n Y.worker refl c.1, emptied-none, c.2, c.4))))
+              | inl z ↦ subst (λ (k : ℕ). TaskFit P L W s4 k u) (sym z.0) (subst (λ (x : Task R). TaskFit P L W s4 w x) z.1 (Y.node, inr (c.0, (flying-alone P s.tasks w t4 n Y.worker refl c.1, emptied-none, c.2, c.4))))
               | inr z ↦ absurd (none-flying P s.tasks n c.1 v u iv z.1 e)
             ];
             elsewhere = λ v u iv b ne. claim-elsewhere P L W s.tasks w t4 v u b ne;
@@ -443,10 +437,10 @@ module _ {R : Type 0} (P : Plan R) (L : Lawful P) (W : WellFormed P) where
             before = c.0;
             after = c.0;
             around =
-              record {
-                others = λ m im ne. record { phase = refl; locals = sym (upd-else s.locals n (λ _. []) m ne); built = refl; streamed = refl; next = refl; flight = claim-flight P L W s.tasks w t4 m Y.free ne };
-                added = λ e ie ne. none-new P L W n e (s.waiting e);
-              };
+                record {
+                  others = λ m im ne. record { phase = refl; locals = sym (upd-else s.locals n (λ _. []) m ne); built = refl; streamed = refl; next = refl; flight = claim-flight P L W s.tasks w t4 m Y.free ne };
+                  added = λ e ie ne. none-new P L W n e (s.waiting e);
+                };
             local = local4;
             gives = λ f K. gives4 f;
             base = λ f K. SameRows-refl (fold_kept P L W n) (s.built n);

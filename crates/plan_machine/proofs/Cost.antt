@@ -1,23 +1,21 @@
 -- What each node, edge and task may still cost in entries, and that one entry spends some of it.
-use Rattle.std.proofs.Common.{◌≡◌, ℕ, zero, suc, ◌+◌, ◌-◌, ◌*◌, ◌/◌, ◌<◌, ◌≤◌, ◌≢◌, ◌⊎◌, inl, inr, Bool, true, false, cond, ltb, List, [], ◌∷◌, ◌++◌, length, map, Option, Some, None, refl, sym, ap, subst, arith, ◌∙◌, append-nil, length-append}
-use Rattle.std.proofs.lemmas.Bool.Decides.{leb_tells, nat_tests}
+use Rattle.std.proofs.Common.{◌≡◌, ℕ, zero, suc, ◌+◌, ◌-◌, ◌*◌, ◌/◌, ◌<◌, ◌≤◌, ◌≢◌, inl, inr, Bool, true, false, cond, ltb, List, [], length, Option, Some, None, refl, sym, ap, subst, arith, ◌∙◌, length-append}
+use Rattle.std.proofs.lemmas.Bool.Decides.{leb_tells}
 use Rattle.plan_machine.specs.declared.entry.Phase.{Phase}
 use Rattle.plan_machine.specs.declared.entry.Phase.TheVariants.{Emitting, Folding, Streaming, Tailing, Sealed, Done}
-use Rattle.plan_machine.specs.declared.entry.Job.{Job}
-use Rattle.plan_machine.specs.Lists.{upd, gather, sum_to, weigh}
-use Rattle.plan_machine.specs.Batch.{Batch, parts, rows_of}
-use Rattle.plan_machine.specs.Plan.{Plan, Node, IsNode, IsEdge, IsWorker, Folds, IsJoin, folds_from, streams_from}
-use Rattle.plan_machine.specs.State.{State, Task, tasks_at, tail_rows}
-use Rattle.plan_machine.specs.WellFormed.{Streams, Lawful, WellFormed, IsInput, IsPlaced}
+use Rattle.plan_machine.specs.Lists.{upd, sum_to, weigh}
+use Rattle.plan_machine.specs.Batch.{Batch, parts}
+use Rattle.plan_machine.specs.Plan.{Plan, Node, IsNode, streams_from}
+use Rattle.plan_machine.specs.State.{State, Task, tail_rows}
+use Rattle.plan_machine.specs.WellFormed.{Streams, Lawful, WellFormed, IsInput}
 use Rattle.plan_machine.specs.Bound.{gives}
-use Rattle.plan_machine.proofs.Weigh.{weigh-append, weigh-one, same_or, upd-here, upd-else, flat}
+use Rattle.plan_machine.proofs.Weigh.{weigh-append, weigh-one, same_or, upd-here, upd-else}
 use Rattle.plan_machine.proofs.Same.{rows_test}
 use Rattle.plan_machine.proofs.Pieces.{pieces_from, weigh-pieces_from}
-use Rattle.plan_machine.proofs.Value.{view, coming, future_by, future_with, future, gives_of}
+use Rattle.plan_machine.proofs.Value.{view, coming, future_by, future}
 use Rattle.plan_machine.proofs.Pass.{true_or_false}
-use Rattle.plan_machine.proofs.Turn.{new_at, streams_input, input_edge, Agree, turned}
+use Rattle.plan_machine.proofs.Turn.{new_at, streams_input, input_edge, turned}
 use Rattle.plan_machine.proofs.Flight.{ends, flying}
-use Rattle.plan_machine.proofs.Fit.{Fit}
 use Rattle.plan_machine.proofs.Moved.{Moved, turn_of, Sound}
 
 pub sum-less : (n : ℕ) (f g : ℕ → ℕ) → ((j : ℕ) → 1 ≤ j → j ≤ n → f j ≤ g j) → sum_to n f ≤ sum_to n g
@@ -32,7 +30,7 @@ pub sum-change : (n a : ℕ) (f g : ℕ → ℕ) → 1 ≤ a → a ≤ n → ((j
 sum-change zero a f g l m e = absurd (omega arith)
 sum-change (suc n) a f g l m e =
     elim (same_or a (suc n)) [
-        inl q ↦
+      | inl q ↦
           let r = sum-less n f g (λ j x y. e j x (omega arith) (λ z. absurd (omega arith))) in
           let x = ap f q in
           let y = ap g q in
@@ -56,7 +54,7 @@ pub sum-upd : {A : Type 0} (n a : ℕ) (F : ℕ → A → ℕ) (w : ℕ → A) (
 sum-upd zero a F w x l m = absurd (omega arith)
 sum-upd (suc n) a F w x l m =
     elim (same_or a (suc n)) [
-        inl q ↦
+      | inl q ↦
           let r = sum-upd-same n a F w x (omega arith) in
           let y = ap (λ k. F k (upd w a x k)) (sym q) in
           let y' = ap (F a) (upd-here w a x) in
@@ -101,7 +99,7 @@ pub come-less : {R : Type 0} (v : Node R) (batch : ℕ) (q : Phase) (next : ℕ)
 come-less v batch Emitting next tail sz gs gs' f s = omega arith
 come-less v batch Folding next tail sz gs gs' f s =
     elim (true_or_false v.streams) [
-        inl j ↦
+      | inl j ↦
           let l = f refl j in
           let a = ap (λ b. cond b gs' 0) j in
           let b = ap (λ b. cond b gs 0) j in
@@ -129,7 +127,7 @@ times_less b (suc m) (suc n) l = let r = times_less b m n (omega arith) in omega
 pub parts_few : (batch n : ℕ) → 1 ≤ batch → (n + (batch - 1)) / batch ≤ n
 parts_few batch n l =
     elim (leb_tells ((n + (batch - 1)) / batch) n) [
-        inl e ↦ e.1
+      | inl e ↦ e.1
       | inr e ↦
           let a = times_less batch (n + 1) ((n + (batch - 1)) / batch) (let z = e.1 in omega arith) in
           let b = times_more batch n l in
@@ -137,7 +135,6 @@ parts_few batch n l =
     ]
 
 module _ {R : Type 0} (P : Plan R) where
-
   -- the tasks in flight at a node that give a batch, and the seals and closings
   abbrev pub outs : State R → ℕ → ℕ
   outs s n = weigh (λ t. gives t.job) (flying P s.tasks n)
@@ -181,7 +178,6 @@ module _ {R : Type 0} (P : Plan R) where
   total s = nodes_cost s + (edges_cost s + tasks_cost s.tasks)
 
 module _ {R : Type 0} (P : Plan R) (L : Lawful P) (W : WellFormed P) where
-
   -- What an entry that moves one node spends: `more` for a claim that begins to give a batch.
   pub record Spends (s s' : State R) (at : ℕ) (new : List (Batch R)) : Type 0 where
     pub more : ℕ
@@ -204,7 +200,6 @@ module _ {R : Type 0} (P : Plan R) (L : Lawful P) (W : WellFormed P) where
       omega arith
 
   module _ (s s' : State R) (a : ℕ) (new : List (Batch R)) (S : Sound P L W s) (M : Moved P L W s s' a new) (X : Spends s s' a new) where
-
     new-length : (e : ℕ) → length (new_at a new e) ≤ length new
     new-length e = elim (same_or e a) [ inl q ↦ (let z = ap length (ap (new_at a new) q ∙ upd-here (λ _. []) a new) in omega arith) | inr q ↦ (let z = ap length (upd-else (λ _. []) a new e q) in omega arith) ]
 
@@ -245,7 +240,7 @@ module _ {R : Type 0} (P : Plan R) (L : Lawful P) (W : WellFormed P) where
         let w = ap length (M.around.added e (input_edge P W n e i p) (λ q. ne (sym u ∙ q))) in
         let w' = length-append (s.waiting e) (new_at a new e) in
         elim (same_or e a) [
-            inl q ↦
+          | inl q ↦
               let x = new-length e in
               let y = X.goes in
               let z = ap (outs P s') q in
@@ -265,7 +260,6 @@ module _ {R : Type 0} (P : Plan R) (L : Lawful P) (W : WellFormed P) where
         ≤ come_at P s n (weigh size (future P (suc k) s n)) (to_come P k s (streams_from P n) + outs P s (streams_from P n))
 
     module _ (k : ℕ) (h : (e : ℕ) → IsNode P e → e ≤ k → to_come P k s' e + extra e ≤ to_come P k s e) where
-
       -- what comes to another node
       supply-at : (n : ℕ) → IsNode P n → n ≤ suc k → n ≢ a → Streams (P.node n) → length (s'.waiting (streams_from P n)) + (to_come P k s' (streams_from P n) + outs P s' (streams_from P n)) ≤ length (s.waiting (streams_from P n)) + (to_come P k s (streams_from P n) + outs P s (streams_from P n))
       supply-at n i l ne st =
@@ -285,7 +279,7 @@ module _ {R : Type 0} (P : Plan R) (L : Lawful P) (W : WellFormed P) where
           let x = come_same n i ne sz' g' (s'.waiting e) in
           let y = ap (λ j. come_by (P.node n) P.batch (s.phase n) (s.next n) (tail_rows P s n) j (length (s'.waiting e) + g')) q in
           let m = come-less (P.node n) P.batch (s.phase n) (s.next n) (tail_rows P s n) sz (length (s.waiting e) + (to_come P k s e + outs P s e)) (length (s'.waiting e) + g')
-            (λ p j. supply-at n i l ne (inr (S.fit.started.folding n i p, j))) (λ p. supply-at n i l ne (S.fit.started.streaming n i p)) in
+          (λ p j. supply-at n i l ne (inr (S.fit.started.folding n i p, j))) (λ p. supply-at n i l ne (S.fit.started.streaming n i p)) in
           let u = upd-else (λ _. 0) a X.more n ne in
           omega arith
 
@@ -296,13 +290,13 @@ module _ {R : Type 0} (P : Plan R) (L : Lawful P) (W : WellFormed P) where
           let z' = ap (weigh size) (upd-here (λ _. []) a new) in
           let u = upd-here (λ _. 0) a X.more in
           let c = X.come (weigh size (future P (suc k) s a)) (weigh size (future P (suc k) s' a)) (to_come P k s e + outs P s e) (to_come P k s' e + outs P s' e) (omega arith)
-            (λ st.
-              let p = streams_input P W a i st in
-              let ie : IsNode P e = (p.node, (let z = p.before in let y = i.1 in omega arith)) in
-              let y = h e ie (let z = p.before in omega arith) in
-              let o = outs-same e ie (λ q. let z = p.before in absurd (omega arith)) in
-              omega arith)
-            (λ p n. tail-size s' a k p n) in
+          (λ st.
+          let p = streams_input P W a i st in
+          let ie : IsNode P e = (p.node, (let z = p.before in let y = i.1 in omega arith)) in
+          let y = h e ie (let z = p.before in omega arith) in
+          let o = outs-same e ie (λ q. let z = p.before in absurd (omega arith)) in
+          omega arith)
+          (λ p n. tail-size s' a k p n) in
           omega arith
 
       come-level : (n : ℕ) → Less k n
@@ -319,9 +313,9 @@ module _ {R : Type 0} (P : Plan R) (L : Lawful P) (W : WellFormed P) where
         let f : ℕ → ℕ = λ n. 10 * to_come P P.sink s' n + stage_of P s' n in
         let g : ℕ → ℕ = λ n. 10 * to_come P P.sink s n + stage_of P s n in
         let c = sum-change P.sink a f g i.0 i.1 (λ j x y ne.
-          let d = come-turned P.sink j (x, y) y in
-          let e = stage-same j (x, y) ne in
-          omega arith) in
+        let d = come-turned P.sink j (x, y) y in
+        let e = stage-same j (x, y) ne in
+        omega arith) in
         let d = come-turned P.sink a i i.1 in
         let u = upd-here (λ _. 0) a X.more in
         let p = X.pays in

@@ -1,5 +1,5 @@
 -- Each delivery moves one node, which gives what its task gives.
-use Rattle.std.proofs.Common.{◌≡◌, ℕ, zero, suc, ◌+◌, ◌<◌, ◌≤◌, ◌≢◌, ◌⊎◌, inl, inr, Bool, true, false, cond, not, ◌&&◌, ◌||◌, eqb, ltb, List, [], ◌∷◌, ◌++◌, length, take, drop, map, Option, Some, None, refl, sym, ap, subst, arith, ◌∙◌, append-nil}
+use Rattle.std.proofs.Common.{◌≡◌, ℕ, suc, ◌+◌, ◌≤◌, ◌≢◌, ◌⊎◌, inl, inr, Bool, true, false, cond, ◌&&◌, ltb, List, [], ◌∷◌, ◌++◌, length, take, drop, map, Option, Some, None, refl, sym, ap, subst, arith, ◌∙◌, append-nil}
 use Rattle.std.proofs.Math.ListN.{drop_of_length-le}
 use Rattle.std.proofs.lemmas.List.{drop-drop}
 use Rattle.std.proofs.lemmas.Bool.Decides.{leb_tells}
@@ -9,20 +9,20 @@ use Rattle.plan_machine.specs.declared.entry.Job.{Job}
 use Rattle.plan_machine.specs.declared.entry.Job.TheVariants.{Emit, Fold, Seal, Stream, Close, Tail}
 use Rattle.plan_machine.specs.Phases.{phase_after_seal_of}
 use Rattle.plan_machine.specs.Lists.{upd, gather, weigh}
-use Rattle.plan_machine.specs.Batch.{Batch, gathered, marked, parts, piece, rows_of}
-use Rattle.plan_machine.specs.Plan.{Plan, Node, IsNode, IsEdge, IsWorker, Folds, IsJoin, folds_from, streams_from}
-use Rattle.plan_machine.specs.State.{State, Task, tail_rows}
-use Rattle.plan_machine.specs.Meaning.{SameRows, SameSet}
-use Rattle.plan_machine.specs.After.{landed, delivered, is_done, left_of, sent, back}
-use Rattle.plan_machine.specs.WellFormed.{Streams, Lawful, WellFormed, IsPlaced, IsInput}
+use Rattle.plan_machine.specs.Batch.{Batch, gathered, marked, piece, rows_of}
+use Rattle.plan_machine.specs.Plan.{Plan, Node, IsNode, IsWorker, Folds, folds_from, streams_from}
+use Rattle.plan_machine.specs.State.{State, Task}
+use Rattle.plan_machine.specs.Meaning.{SameSet}
+use Rattle.plan_machine.specs.After.{landed, left_of, sent, back}
+use Rattle.plan_machine.specs.WellFormed.{Streams, Lawful, WellFormed, IsInput}
 use Rattle.plan_machine.proofs.Weigh.{weigh-append, weigh-flat, weigh-map, weigh-rows, weigh-take-drop, upd-here, upd-else, same_or, flat}
-use Rattle.plan_machine.proofs.Same.{Same, IsTest, SameRows-refl, SameRows-equal, SameSet-weigh, SameSet-refl, gathered-same}
+use Rattle.plan_machine.proofs.Same.{Same, IsTest, SameRows-refl, SameRows-equal, gathered-same}
 use Rattle.plan_machine.proofs.Pieces.{pieces_from}
-use Rattle.plan_machine.proofs.Value.{whole_of, remains_of, View, Coming, all_folded, all_streamed, streamed_by, joined_by, tails_by, view, coming, gives_of, holds_of, gives_by, holds_by, future_by}
-use Rattle.plan_machine.proofs.Pass.{fold_kept, stream_kept, folding-same, tails-set, fresh-remains, true_or_false}
-use Rattle.plan_machine.proofs.Turn.{new_at, Started, Known, folds_input, streams_input, folded_all}
+use Rattle.plan_machine.proofs.Value.{whole_of, remains_of, Coming, all_streamed, streamed_by, joined_by, tails_by, view, coming, gives_of, holds_of, gives_by, holds_by, future_by}
+use Rattle.plan_machine.proofs.Pass.{fold_kept, folding-same, tails-set, fresh-remains, true_or_false}
+use Rattle.plan_machine.proofs.Turn.{new_at, Known, folds_input, streams_input, folded_all}
 use Rattle.plan_machine.proofs.Flight.{ends, works, flying, flying-less, flying-has, flying-gone, none-flying, locals-change}
-use Rattle.plan_machine.proofs.Fit.{phase_of, TaskFits, InPhase, Fits, TaskFit, Fit, Local, Around}
+use Rattle.plan_machine.proofs.Fit.{phase_of, TaskFits, InPhase, Fit, Local, Around}
 use Rattle.plan_machine.proofs.Moved.{Moved, none-new, given-weigh, held-weigh, fits-same, done-here, done-flight}
 use Rattle.plan_machine.proofs.Claims.{not_ends}
 
@@ -39,7 +39,6 @@ only_one : {A : Type 0} (x y z u k : List A) → x ≡ [] → y ≡ k ++ [] → 
 only_one x y z u k a b c d = rw (a, b, c, d) (append-nil (k ++ []) ∙ append-nil k)
 
 module _ {R : Type 0} (P : Plan R) (L : Lawful P) (W : WellFormed P) where
-
   -- a seal or a closing is alone at its node
   alone_of : (s : State R) (m v : ℕ) (u : Task R) (j : Job) → TaskFits P L W s m v u j → ends j ≡ 1 → flying P s.tasks m ≡ u ∷ []
   alone_of s m v u Emit f e = cc
@@ -50,7 +49,6 @@ module _ {R : Type 0} (P : Plan R) (L : Lawful P) (W : WellFormed P) where
   alone_of s m v u Tail f e = cc
 
   module _ (s : State R) (F : Fit P L W s) (w : ℕ) (t : Task R) (iw : IsWorker P w) (busy : s.tasks w ≡ Some t) where
-
     abbrev a : ℕ
     a = t.node
 
@@ -87,21 +85,21 @@ module _ {R : Type 0} (P : Plan R) (L : Lawful P) (W : WellFormed P) where
           before = d;
           after = d;
           around =
-            record {
-              others = λ m im ne. record { phase = refl; locals = refl; built = refl; streamed = refl; next = refl; flight = done-flight P L W s.tasks w t m busy ne };
-              added = λ e ie ne. none-new P L W a e (s.waiting e);
-            };
+              record {
+                others = λ m im ne. record { phase = refl; locals = refl; built = refl; streamed = refl; next = refl; flight = done-flight P L W s.tasks w t m busy ne };
+                added = λ e ie ne. none-new P L W a e (s.waiting e);
+              };
           local =
-            record {
-              folding = λ q. F.started.folding a i q;
-              streaming = λ q. F.started.streaming a i q;
-              next_fold = λ q. F.next_fold a i q;
-              next_stream = λ q. F.next_stream a i q;
-              from_fold = λ q j. F.from_fold a i q j;
-              here = λ v u iv b e. ((F.tasks v u iv (elsewhere v u b)).0, inl (ap s.phase e ∙ d));
-              elsewhere = λ v u iv b ne. elsewhere v u b;
-              live = λ d. (d, refl);
-            };
+              record {
+                folding = λ q. F.started.folding a i q;
+                streaming = λ q. F.started.streaming a i q;
+                next_fold = λ q. F.next_fold a i q;
+                next_stream = λ q. F.next_stream a i q;
+                from_fold = λ q j. F.from_fold a i q j;
+                here = λ v u iv b e. ((F.tasks v u iv (elsewhere v u b)).0, inl (ap s.phase e ∙ d));
+                elsewhere = λ v u iv b ne. elsewhere v u b;
+                live = λ d. (d, refl);
+              };
           gives = λ f K H t. refl;
           base = λ f K. SameRows-refl (fold_kept P L W a) (s.built a);
           folds = λ f q. cc;
@@ -111,7 +109,7 @@ module _ {R : Type 0} (P : Plan R) (L : Lawful P) (W : WellFormed P) where
     put-added : (b : Batch R) (e : ℕ) → upd s.waiting a (s.waiting a ++ b ∷ []) e ≡ s.waiting e ++ new_at a (b ∷ []) e
     put-added b e =
         elim (same_or e a) [
-            inl q ↦ ap (upd s.waiting a (s.waiting a ++ b ∷ [])) q ∙ upd-here s.waiting a (s.waiting a ++ b ∷ []) ∙ (let z = ap (new_at a (b ∷ [])) q ∙ upd-here (λ _. []) a (b ∷ []) in let y = ap s.waiting q in cc)
+          | inl q ↦ ap (upd s.waiting a (s.waiting a ++ b ∷ [])) q ∙ upd-here s.waiting a (s.waiting a ++ b ∷ []) ∙ (let z = ap (new_at a (b ∷ [])) q ∙ upd-here (λ _. []) a (b ∷ []) in let y = ap s.waiting q in cc)
           | inr q ↦ upd-else s.waiting a (s.waiting a ++ b ∷ []) e q ∙ (let z = upd-else (λ _. []) a (b ∷ []) e q in let y = append-nil (s.waiting e) in cc)
         ]
 
@@ -125,8 +123,8 @@ module _ {R : Type 0} (P : Plan R) (L : Lawful P) (W : WellFormed P) where
           next_stream = λ p. absurd (neither Streaming p (λ x. cc) (λ x. cc));
           from_fold = λ p x. absurd (neither Folding p (λ x. cc) (λ x. cc));
           here = λ v u iv b e.
-            fits-same P L W s s' v u (ap (λ (g : ℕ → Phase). g u.node) ph) (ap (λ (g : ℕ → ℕ → List (Batch R)). g u.node v) lo) (ap (λ (g : ℕ → List R). g u.node) bu)
-            (λ g. not_ends u.job (s.phase a) (sym g.0 ∙ ap s.phase e) q) (F.tasks v u iv (elsewhere v u (sym (ap (λ (g : ℕ → Option (Task R)). g v) ts) ∙ b)));
+              fits-same P L W s s' v u (ap (λ (g : ℕ → Phase). g u.node) ph) (ap (λ (g : ℕ → ℕ → List (Batch R)). g u.node v) lo) (ap (λ (g : ℕ → List R). g u.node) bu)
+              (λ g. not_ends u.job (s.phase a) (sym g.0 ∙ ap s.phase e) q) (F.tasks v u iv (elsewhere v u (sym (ap (λ (g : ℕ → Option (Task R)). g v) ts) ∙ b)));
           elsewhere = λ v u iv b ne. elsewhere v u (sym (ap (λ (g : ℕ → Option (Task R)). g v) ts) ∙ b);
           live = λ d. absurd (neither Done (ap (λ (g : ℕ → Phase). g a) ph ∙ d) (λ x. cc) (λ x. cc));
         }
@@ -160,10 +158,10 @@ module _ {R : Type 0} (P : Plan R) (L : Lawful P) (W : WellFormed P) where
           before = p;
           after = p;
           around =
-            record {
-              others = λ m im ne. record { phase = refl; locals = refl; built = refl; streamed = refl; next = refl; flight = done-flight P L W s.tasks w t m busy ne };
-              added = λ e ie ne. put-added b e;
-            };
+              record {
+                others = λ m im ne. record { phase = refl; locals = refl; built = refl; streamed = refl; next = refl; flight = done-flight P L W s.tasks w t m busy ne };
+                added = λ e ie ne. put-added b e;
+              };
           local = put-local (landed P s w t Emit) b (inl p) refl refl refl refl;
           gives = λ f K H q. put-gives H b _ (ap (gives_by P t) jb);
           base = λ f K. SameRows-refl (fold_kept P L W a) (s.built a);
@@ -180,10 +178,10 @@ module _ {R : Type 0} (P : Plan R) (L : Lawful P) (W : WellFormed P) where
           before = p;
           after = p;
           around =
-            record {
-              others = λ m im ne. record { phase = refl; locals = refl; built = refl; streamed = refl; next = refl; flight = done-flight P L W s.tasks w t m busy ne };
-              added = λ e ie ne. put-added b e;
-            };
+              record {
+                others = λ m im ne. record { phase = refl; locals = refl; built = refl; streamed = refl; next = refl; flight = done-flight P L W s.tasks w t m busy ne };
+                added = λ e ie ne. put-added b e;
+              };
           local = put-local (landed P s w t Tail) b (inr p) refl refl refl refl;
           gives = λ f K H q. put-gives H b _ (ap (gives_by P t) jb);
           base = λ f K. SameRows-refl (fold_kept P L W a) (s.built a);
@@ -222,10 +220,10 @@ module _ {R : Type 0} (P : Plan R) (L : Lawful P) (W : WellFormed P) where
         let s' : State R = landed P s w t Fold in
         let fo : Folds (P.node a) = F.started.folding a i p in
         let folded : (f : ℕ → List (Batch R)) (H : Batch R → ℕ) → weigh H (folded_all P L W s f a) ≡ weigh H (folded_all P L W s' f a) = λ f H.
-          let h = held-returned H l (ap (holds_by P t) jb) in
-          let x = weigh-append H (view P s a).held (s.waiting (folds_from P a) ++ f (folds_from P a)) in
-          let x' = weigh-append H (view P s' a).held (s.waiting (folds_from P a) ++ f (folds_from P a)) in
-          omega arith in
+        let h = held-returned H l (ap (holds_by P t) jb) in
+        let x = weigh-append H (view P s a).held (s.waiting (folds_from P a) ++ f (folds_from P a)) in
+        let x' = weigh-append H (view P s' a).held (s.waiting (folds_from P a) ++ f (folds_from P a)) in
+        omega arith in
         record {
           fresh = refl;
           was = Folding;
@@ -233,23 +231,23 @@ module _ {R : Type 0} (P : Plan R) (L : Lawful P) (W : WellFormed P) where
           before = p;
           after = p;
           around =
-            record {
-              others = λ m im ne. record { phase = refl; locals = sym (upd-else s.locals a (upd (s.locals a) w (t.took ++ t.batch ∷ [])) m ne); built = refl; streamed = refl; next = refl; flight = done-flight P L W s.tasks w t m busy ne };
-              added = λ e ie ne. none-new P L W a e (s.waiting e);
-            };
+              record {
+                others = λ m im ne. record { phase = refl; locals = sym (upd-else s.locals a (upd (s.locals a) w (t.took ++ t.batch ∷ [])) m ne); built = refl; streamed = refl; next = refl; flight = done-flight P L W s.tasks w t m busy ne };
+                added = λ e ie ne. none-new P L W a e (s.waiting e);
+              };
           local =
-            record {
-              folding = λ q. F.started.folding a i q;
-              streaming = λ q. F.started.streaming a i q;
-              next_fold = λ q. F.next_fold a i q;
-              next_stream = λ q. F.next_stream a i q;
-              from_fold = λ q j. F.from_fold a i q j;
-              here = λ v u iv b e.
-                let d = done-here P L W s.tasks w v u b in
-                fits-same P L W s s' v u refl (returned-else u.node v e d.0) refl (none_ends (ap works jb) v u e) (F.tasks v u iv d.1);
-              elsewhere = λ v u iv b ne. elsewhere v u b;
-              live = λ d. let z = sym p ∙ d in cc;
-            };
+              record {
+                folding = λ q. F.started.folding a i q;
+                streaming = λ q. F.started.streaming a i q;
+                next_fold = λ q. F.next_fold a i q;
+                next_stream = λ q. F.next_stream a i q;
+                from_fold = λ q j. F.from_fold a i q j;
+                here = λ v u iv b e.
+                    let d = done-here P L W s.tasks w v u b in
+                    fits-same P L W s s' v u refl (returned-else u.node v e d.0) refl (none_ends (ap works jb) v u e) (F.tasks v u iv d.1);
+                elsewhere = λ v u iv b ne. elsewhere v u b;
+                live = λ d. let z = sym p ∙ d in cc;
+              };
           gives = λ f K. folding-same P L W a i (view P s a) (view P s' a) (coming P s f a) (coming P s' f a) fo (λ H t. folded f H) (K.distinct p) (λ st H t. refl) refl;
           base = λ f K. gathered-same L.equality (fold_kept P L W a) (folded_all P L W s f a) (folded_all P L W s' f a) (λ H t. folded f H) (K.distinct p);
           folds = λ f q. (refl, λ H t. folded f H);
@@ -257,7 +255,6 @@ module _ {R : Type 0} (P : Plan R) (L : Lawful P) (W : WellFormed P) where
 
     -- A Seal: the node's rows are those of all batches that it folded.
     module _ (jb : t.job ≡ Seal) (p : s.phase a ≡ Folding) (x : TaskFits P L W s a w t Seal) where
-
       abbrev s5 : State R
       s5 = landed P s w t Seal
 
@@ -359,20 +356,30 @@ module _ {R : Type 0} (P : Plan R) (L : Lawful P) (W : WellFormed P) where
       pub seal-landed : Moved P L W s s5 t.node []
       seal-landed =
           elim (true_or_false (P.node a).streams) [
-              inl j ↦
+            | inl j ↦
                 let e : s5.phase a ≡ Streaming = phase5 ∙ ap (λ z. phase_after_seal_of z (P.node a).tails) j in
                 record {
-                  fresh = refl; was = Folding; is = Streaming; before = p; after = e; around = around5;
+                  fresh = refl;
+                  was = Folding;
+                  is = Streaming;
+                  before = p;
+                  after = e;
+                  around = around5;
                   local = local5 Streaming e (λ z. cc) (λ z. cc) (λ z. inr (fo5, j));
                   gives = λ f K H u. joined5 f K j H;
                   base = λ f K. SameRows-equal (fold_kept P L W a) _ _ (base5 f K);
                   folds = λ f z. cc;
                 }
             | inr j ↦ elim (true_or_false (P.node a).tails) [
-                inl tl ↦
+              | inl tl ↦
                   let e : s5.phase a ≡ Tailing = phase5 ∙ ap (λ z. phase_after_seal_of z (P.node a).tails) j ∙ ap (λ z. phase_after_seal_of false z) tl in
                   record {
-                    fresh = refl; was = Folding; is = Tailing; before = p; after = e; around = around5;
+                    fresh = refl;
+                    was = Folding;
+                    is = Tailing;
+                    before = p;
+                    after = e;
+                    around = around5;
                     local = local5 Tailing e (λ z. cc) (λ z. cc) (λ z. cc);
                     gives = λ f K H u. tailing5 f K j tl H;
                     base = λ f K. SameRows-equal (fold_kept P L W a) _ _ (base5 f K);
@@ -381,7 +388,12 @@ module _ {R : Type 0} (P : Plan R) (L : Lawful P) (W : WellFormed P) where
               | inr tl ↦
                   let e : s5.phase a ≡ Sealed = phase5 ∙ ap (λ z. phase_after_seal_of z (P.node a).tails) j ∙ ap (λ z. phase_after_seal_of false z) tl in
                   record {
-                    fresh = refl; was = Folding; is = Sealed; before = p; after = e; around = around5;
+                    fresh = refl;
+                    was = Folding;
+                    is = Sealed;
+                    before = p;
+                    after = e;
+                    around = around5;
                     local = local5 Sealed e (λ z. cc) (λ z. cc) (λ z. cc);
                     gives = λ f K H u. sealed5 f j tl H;
                     base = λ f K. SameRows-equal (fold_kept P L W a) _ _ (base5 f K);
@@ -392,7 +404,6 @@ module _ {R : Type 0} (P : Plan R) (L : Lawful P) (W : WellFormed P) where
 
     -- A Close: the batches that the node streamed are those of all workers.
     module _ (jb : t.job ≡ Close) (p : s.phase a ≡ Streaming) (x : TaskFits P L W s a w t Close) where
-
       abbrev s6 : State R
       s6 = landed P s w t Close
 
@@ -411,7 +422,7 @@ module _ {R : Type 0} (P : Plan R) (L : Lawful P) (W : WellFormed P) where
           let d : s6.phase (streams_from P a) ≡ Done = upd-else s.phase a Tailing (streams_from P a) (λ q. absurd (omega arith)) ∙ x.2.0 in
           let later : f (streams_from P a) ≡ [] = K.none (streams_from P a) e d in
           let whole : (view P s a).held ++ all_streamed C ≡ t.took =
-            only_one _ _ _ _ t.took x.1 (ap (flat (holds_of P)) x.0 ∙ ap (λ (l : List (Batch R)). l ++ []) (ap (holds_by P t) jb)) x.2.1 later in
+          only_one _ _ _ _ t.took x.1 (ap (flat (holds_of P)) x.0 ∙ ap (λ (l : List (Batch R)). l ++ []) (ap (holds_by P t) jb)) x.2.1 later in
           let g : weigh H (view P s a).given ≡ 0 = ap (λ (z : List (Task R)). weigh H (flat (gives_of P) z)) x.0 ∙ ap (λ (l : List (Batch R)). weigh H (l ++ [])) (ap (gives_by P t) jb) in
           let r1 = ap (λ (z : List (Batch R)). weigh H (map (remains_of v (s.built a)) z)) x.2.1 in
           let r2 = ap (λ (z : List (Batch R)). weigh H (map (whole_of v (s.built a)) z)) later in
@@ -430,23 +441,27 @@ module _ {R : Type 0} (P : Plan R) (L : Lawful P) (W : WellFormed P) where
       close-landed =
           let e : s6.phase a ≡ Tailing = upd-here s.phase a Tailing in
           record {
-            fresh = refl; was = Streaming; is = Tailing; before = p; after = e;
+            fresh = refl;
+            was = Streaming;
+            is = Tailing;
+            before = p;
+            after = e;
             around =
-              record {
-                others = λ m im ne. record { phase = sym (upd-else s.phase a Tailing m ne); locals = refl; built = refl; streamed = sym (upd-else s.streamed a t.took m ne); next = refl; flight = done-flight P L W s.tasks w t m busy ne };
-                added = λ e ie ne. none-new P L W a e (s.waiting e);
-              };
+                record {
+                  others = λ m im ne. record { phase = sym (upd-else s.phase a Tailing m ne); locals = refl; built = refl; streamed = sym (upd-else s.streamed a t.took m ne); next = refl; flight = done-flight P L W s.tasks w t m busy ne };
+                  added = λ e ie ne. none-new P L W a e (s.waiting e);
+                };
             local =
-              record {
-                folding = λ z. let y = sym e ∙ z in cc;
-                streaming = λ z. st6;
-                next_fold = λ z. let y = sym e ∙ z in cc;
-                next_stream = λ z. F.next_stream a i p;
-                from_fold = λ z j. let y = sym e ∙ z in cc;
-                here = λ v u iv b e'. absurd (none-flying P done a gone6 v u iv b e');
-                elsewhere = λ v u iv b ne. elsewhere v u b;
-                live = λ d. let z = sym p ∙ d in cc;
-              };
+                record {
+                  folding = λ z. let y = sym e ∙ z in cc;
+                  streaming = λ z. st6;
+                  next_fold = λ z. let y = sym e ∙ z in cc;
+                  next_stream = λ z. F.next_stream a i p;
+                  from_fold = λ z j. let y = sym e ∙ z in cc;
+                  here = λ v u iv b e'. absurd (none-flying P done a gone6 v u iv b e');
+                  elsewhere = λ v u iv b ne. elsewhere v u b;
+                  live = λ d. let z = sym p ∙ d in cc;
+                };
             gives = λ f K H u. gives6 f K H;
             base = λ f K. SameRows-refl (fold_kept P L W a) (s.built a);
             folds = λ f z. cc;
@@ -454,7 +469,6 @@ module _ {R : Type 0} (P : Plan R) (L : Lawful P) (W : WellFormed P) where
 
     -- A Stream: a part of the batch's output is given, and what is left goes back.
     module _ (jb : t.job ≡ Stream) (p : s.phase a ≡ Streaming) (x : TaskFits P L W s a w t Stream) where
-
       abbrev s7 : State R
       s7 = landed P s w t Stream
 
@@ -475,7 +489,7 @@ module _ {R : Type 0} (P : Plan R) (L : Lawful P) (W : WellFormed P) where
       added7 : (e : ℕ) → P.user e ≢ a → s7.waiting e ≡ s.waiting e ++ new_at a (sent P t ∷ []) e
       added7 e ne =
           elim (same_or e a) [
-              inl q ↦
+            | inl q ↦
                 ap s7.waiting q ∙ upd-here (upd s.waiting e7 (back P t ++ s.waiting e7)) a (s.waiting a ++ sent P t ∷ [])
                 ∙ (let z = ap (new_at a (sent P t ∷ [])) q ∙ upd-here (λ _. []) a (sent P t ∷ []) in let y = ap s.waiting q in cc)
             | inr q ↦
@@ -491,8 +505,10 @@ module _ {R : Type 0} (P : Plan R) (L : Lawful P) (W : WellFormed P) where
         where
           left : List R
           left = left_of P t
+
           same_left : drop t.batch.from ((P.node a).part (s.built a) t.batch.rows) ≡ left_of P t
           same_left = ap (λ (b : List R). drop t.batch.from ((P.node a).part b t.batch.rows)) x.0
+
           cut : (P.node a).cuts ≡ true → H (remains_of (P.node a) (s.built a) t.batch) ≡ H (sent P t) + weigh H (map (remains_of (P.node a) (s.built a)) (back P t))
           cut c =
               let k : (P.node a).kept ≡ false = (W.nodes a i).loose_cuts c in
@@ -505,7 +521,7 @@ module _ {R : Type 0} (P : Plan R) (L : Lawful P) (W : WellFormed P) where
               let a5 = weigh-take-drop h P.batch (left_of P t) in
               let a6 = ap (λ z. weigh H (map (remains_of (P.node a) (s.built a)) (cond (z && ltb P.batch (length (left_of P t))) (record { index = t.batch.index; rows = t.batch.rows; from = t.batch.from + P.batch } ∷ []) []))) c in
               elim (leb_tells (suc P.batch) (length (left_of P t))) [
-                  inl q ↦
+                | inl q ↦
                     let b1 = ap (λ z. weigh H (map (remains_of (P.node a) (s.built a)) (cond z (record { index = t.batch.index; rows = t.batch.rows; from = t.batch.from + P.batch } ∷ []) []))) q.0 in
                     let b2 = u'.1 (remains_of (P.node a) (s.built a) (record { index = t.batch.index; rows = t.batch.rows; from = t.batch.from + P.batch })) in
                     let b3 = ap (weigh h) (drop-drop P.batch t.batch.from ((P.node a).part (s.built a) t.batch.rows)) in
@@ -516,6 +532,7 @@ module _ {R : Type 0} (P : Plan R) (L : Lawful P) (W : WellFormed P) where
                     let b2 = ap (weigh h) (drop_of_length-le (left_of P t) {i = P.batch} (omega arith)) in
                     omega arith
               ]
+
           uncut : (P.node a).cuts ≡ false → H (remains_of (P.node a) (s.built a) t.batch) ≡ H (sent P t) + weigh H (map (remains_of (P.node a) (s.built a)) (back P t))
           uncut c =
               let a1 = ap (λ z. H (record { index = marked (P.node a).kept t.batch.index; rows = z; from = 0 })) same_left in
@@ -572,25 +589,29 @@ module _ {R : Type 0} (P : Plan R) (L : Lawful P) (W : WellFormed P) where
       pub stream-landed : Moved P L W s s7 t.node (sent P t ∷ [])
       stream-landed =
           record {
-            fresh = refl; was = Streaming; is = Streaming; before = p; after = p;
+            fresh = refl;
+            was = Streaming;
+            is = Streaming;
+            before = p;
+            after = p;
             around =
-              record {
-                others = λ m im ne. record { phase = refl; locals = sym (upd-else s.locals a (upd (s.locals a) w (t.took ++ t.batch ∷ [])) m ne); built = refl; streamed = refl; next = refl; flight = done-flight P L W s.tasks w t m busy ne };
-                added = λ e ie ne. added7 e ne;
-              };
+                record {
+                  others = λ m im ne. record { phase = refl; locals = sym (upd-else s.locals a (upd (s.locals a) w (t.took ++ t.batch ∷ [])) m ne); built = refl; streamed = refl; next = refl; flight = done-flight P L W s.tasks w t m busy ne };
+                  added = λ e ie ne. added7 e ne;
+                };
             local =
-              record {
-                folding = λ q. F.started.folding a i q;
-                streaming = λ q. st7;
-                next_fold = λ q. F.next_fold a i q;
-                next_stream = λ q. F.next_stream a i q;
-                from_fold = λ q j. let z = sym p ∙ q in cc;
-                here = λ v u iv b e.
-                  let d = done-here P L W s.tasks w v u b in
-                  fits-same P L W s s7 v u refl (returned-else u.node v e d.0) refl (none_ends (ap works jb) v u e) (F.tasks v u iv d.1);
-                elsewhere = λ v u iv b ne. elsewhere v u b;
-                live = λ d. let z = sym p ∙ d in cc;
-              };
+                record {
+                  folding = λ q. F.started.folding a i q;
+                  streaming = λ q. st7;
+                  next_fold = λ q. F.next_fold a i q;
+                  next_stream = λ q. F.next_stream a i q;
+                  from_fold = λ q j. let z = sym p ∙ q in cc;
+                  here = λ v u iv b e.
+                      let d = done-here P L W s.tasks w v u b in
+                      fits-same P L W s s7 v u refl (returned-else u.node v e d.0) refl (none_ends (ap works jb) v u e) (F.tasks v u iv d.1);
+                  elsewhere = λ v u iv b ne. elsewhere v u b;
+                  live = λ d. let z = sym p ∙ d in cc;
+                };
             gives = λ f K. gives7 f;
             base = λ f K. SameRows-refl (fold_kept P L W a) (s.built a);
             folds = λ f q. cc;

@@ -1,29 +1,25 @@
 -- A Finish, a Pause and a Resume move one node.
-use Rattle.std.proofs.Common.{◌≡◌, ℕ, zero, suc, ◌+◌, ◌<◌, ◌≤◌, ◌≢◌, ◌⊎◌, inl, inr, Bool, true, false, cond, List, [], ◌∷◌, ◌++◌, length, map, Option, Some, None, refl, sym, ap, subst, arith, ◌∙◌, append-nil}
+use Rattle.std.proofs.Common.{◌≡◌, ℕ, inl, Bool, cond, List, [], ◌++◌, map, refl, sym, ap, arith, ◌∙◌}
 use Rattle.plan_machine.specs.declared.entry.Phase.{Phase}
 use Rattle.plan_machine.specs.declared.entry.Phase.TheVariants.{Emitting, Folding, Streaming, Tailing, Sealed, Done}
-use Rattle.plan_machine.specs.Lists.{upd, gather, weigh}
-use Rattle.plan_machine.specs.Batch.{Batch, parts, piece, rows_of}
-use Rattle.plan_machine.specs.Plan.{Plan, Node, IsNode, IsEdge, IsWorker, folds_from, streams_from}
+use Rattle.plan_machine.specs.Lists.{upd, weigh}
+use Rattle.plan_machine.specs.Batch.{Batch, parts, rows_of}
+use Rattle.plan_machine.specs.Plan.{Plan, Node, IsNode, IsEdge, streams_from}
 use Rattle.plan_machine.specs.State.{State, Task, tail_rows, IsIdle}
-use Rattle.plan_machine.specs.Enabled.{MayFinish, CanPause, CanResume}
-use Rattle.plan_machine.specs.WellFormed.{Streams, Lawful, WellFormed, IsPlaced, IsInput}
-use Rattle.plan_machine.proofs.Weigh.{weigh-append, upd-here, upd-else, same_or, flat}
-use Rattle.plan_machine.proofs.Same.{Same, SameRows-refl, SameRows-equal}
+use Rattle.plan_machine.specs.Enabled.{MayFinish}
+use Rattle.plan_machine.specs.WellFormed.{Lawful, WellFormed}
+use Rattle.plan_machine.proofs.Weigh.{weigh-append, upd-here, upd-else, flat}
+use Rattle.plan_machine.proofs.Same.{SameRows-refl, SameRows-equal}
 use Rattle.plan_machine.proofs.Pieces.{pieces_from, pieces-end}
-use Rattle.plan_machine.proofs.Value.{whole_of, remains_of, View, Coming, all_streamed, streamed_by, tails_by, view, coming, gives_of, future_by, base_by}
+use Rattle.plan_machine.proofs.Value.{whole_of, remains_of, Coming, all_streamed, streamed_by, tails_by, view, coming, gives_of, future_by, base_by}
 use Rattle.plan_machine.proofs.Pass.{fold_kept}
-use Rattle.plan_machine.proofs.Turn.{Known, streams_input, folded_all}
-use Rattle.plan_machine.proofs.Flight.{flying}
-use Rattle.plan_machine.proofs.Fit.{Fit, Local, Around, TaskFit}
+use Rattle.plan_machine.proofs.Turn.{Known, streams_input}
+use Rattle.plan_machine.proofs.Fit.{Fit}
 use Rattle.plan_machine.proofs.Moved.{Moved, none-new}
 
 module _ {R : Type 0} (P : Plan R) (L : Lawful P) (W : WellFormed P) where
-
   module _ (s : State R) (F : Fit P L W s) where
-
     module _ (n : ℕ) (i : IsNode P n) (idle : IsIdle P s n) where
-
       abbrev ended : State R
       ended = record s { phase = upd s.phase n Done }
 
@@ -33,23 +29,27 @@ module _ {R : Type 0} (P : Plan R) (L : Lawful P) (W : WellFormed P) where
       finished : (q : Phase) → s.phase n ≡ q → (q ≡ Folding → ⊥) → (q ≡ Done → ⊥) → ((f : ℕ → List (Batch R)) → Known P L W s ended f n → (H : Batch R → ℕ) → weigh H (future_by (P.node n) P.batch q (view P s n) (coming P s f n)) ≡ 0) → ((f : ℕ → List (Batch R)) → base_by q (view P s n) (coming P s f n) ≡ s.built n) → Moved P L W s ended n []
       finished q p nf nd g b =
           record {
-            fresh = refl; was = q; is = Done; before = p; after = is_done;
+            fresh = refl;
+            was = q;
+            is = Done;
+            before = p;
+            after = is_done;
             around =
-              record {
-                others = λ m im ne. record { phase = sym (upd-else s.phase n Done m ne); locals = refl; built = refl; streamed = refl; next = refl; flight = refl };
-                added = λ e ie ne. none-new P L W n e (s.waiting e);
-              };
+                record {
+                  others = λ m im ne. record { phase = sym (upd-else s.phase n Done m ne); locals = refl; built = refl; streamed = refl; next = refl; flight = refl };
+                  added = λ e ie ne. none-new P L W n e (s.waiting e);
+                };
             local =
-              record {
-                folding = λ z. let y = sym is_done ∙ z in cc;
-                streaming = λ z. let y = sym is_done ∙ z in cc;
-                next_fold = λ z. let y = sym is_done ∙ z in cc;
-                next_stream = λ z. let y = sym is_done ∙ z in cc;
-                from_fold = λ z j. let y = sym is_done ∙ z in cc;
-                here = λ v u iv b e. ((F.tasks v u iv b).0, inl (ap ended.phase e ∙ is_done));
-                elsewhere = λ v u iv b ne. b;
-                live = λ d. absurd (nd (sym p ∙ d));
-              };
+                record {
+                  folding = λ z. let y = sym is_done ∙ z in cc;
+                  streaming = λ z. let y = sym is_done ∙ z in cc;
+                  next_fold = λ z. let y = sym is_done ∙ z in cc;
+                  next_stream = λ z. let y = sym is_done ∙ z in cc;
+                  from_fold = λ z j. let y = sym is_done ∙ z in cc;
+                  here = λ v u iv b e. ((F.tasks v u iv b).0, inl (ap ended.phase e ∙ is_done));
+                  elsewhere = λ v u iv b ne. b;
+                  live = λ d. absurd (nd (sym p ∙ d));
+                };
             gives = λ f K H t. g f K H;
             base = λ f K. SameRows-equal (fold_kept P L W n) _ _ (b f);
             folds = λ f z. cc;
@@ -98,23 +98,27 @@ module _ {R : Type 0} (P : Plan R) (L : Lawful P) (W : WellFormed P) where
     paused-moved e ie b =
         let i : IsNode P e = (ie.0, (let z = ie.1 in omega arith)) in
         record {
-          fresh = refl; was = s.phase e; is = s.phase e; before = refl; after = refl;
+          fresh = refl;
+          was = s.phase e;
+          is = s.phase e;
+          before = refl;
+          after = refl;
           around =
-            record {
-              others = λ m im ne. record { phase = refl; locals = refl; built = refl; streamed = refl; next = refl; flight = refl };
-              added = λ d id ne. none-new P L W e d (s.waiting d);
-            };
+              record {
+                others = λ m im ne. record { phase = refl; locals = refl; built = refl; streamed = refl; next = refl; flight = refl };
+                added = λ d id ne. none-new P L W e d (s.waiting d);
+              };
           local =
-            record {
-              folding = λ z. F.started.folding e i z;
-              streaming = λ z. F.started.streaming e i z;
-              next_fold = λ z. F.next_fold e i z;
-              next_stream = λ z. F.next_stream e i z;
-              from_fold = λ z j. F.from_fold e i z j;
-              here = λ v u iv b q. F.tasks v u iv b;
-              elsewhere = λ v u iv b ne. b;
-              live = λ d. (d, refl);
-            };
+              record {
+                folding = λ z. F.started.folding e i z;
+                streaming = λ z. F.started.streaming e i z;
+                next_fold = λ z. F.next_fold e i z;
+                next_stream = λ z. F.next_stream e i z;
+                from_fold = λ z j. F.from_fold e i z j;
+                here = λ v u iv b q. F.tasks v u iv b;
+                elsewhere = λ v u iv b ne. b;
+                live = λ d. (d, refl);
+              };
           gives = λ f K H t. refl;
           base = λ f K. SameRows-refl (fold_kept P L W e) (base_by (s.phase e) (view P s e) (coming P s f e));
           folds = λ f z. (z, λ H t. refl);

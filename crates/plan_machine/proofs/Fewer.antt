@@ -1,19 +1,19 @@
 -- No legal history has more entries than `most`.
-use Rattle.std.proofs.Common.{◌≡◌, ℕ, zero, suc, ◌+◌, ◌-◌, ◌*◌, ◌<◌, ◌≤◌, ◌≢◌, ◌⊎◌, inl, inr, Bool, true, false, cond, ltb, ◌||◌, List, [], ◌∷◌, ◌++◌, length, Option, Some, None, refl, sym, ap, subst, arith, ◌∙◌}
+use Rattle.std.proofs.Common.{◌≡◌, ℕ, zero, suc, ◌+◌, ◌-◌, ◌*◌, ◌<◌, ◌≤◌, ◌≢◌, ◌⊎◌, inl, inr, Bool, true, false, cond, ltb, ◌||◌, List, [], ◌∷◌, length, Option, Some, None, refl, sym, ap, subst, arith, ◌∙◌}
 use Rattle.std.proofs.lemmas.Bool.Decides.{leb_tells}
 use Rattle.plan_machine.specs.declared.entry.Phase.{Phase}
 use Rattle.plan_machine.specs.declared.entry.Phase.TheVariants.{Emitting, Folding, Streaming, Tailing, Sealed, Done}
 use Rattle.plan_machine.specs.declared.entry.Entry.{Entry}
 use Rattle.plan_machine.specs.declared.entry.Entry.TheVariants.{Claim, Deliver, Pause, Resume, Finish, Stop, Fail}
 use Rattle.plan_machine.specs.Lists.{upd, sum_to, weigh}
-use Rattle.plan_machine.specs.Batch.{Batch, parts, rows_of, gathered}
-use Rattle.plan_machine.specs.Plan.{Plan, Node, IsNode, IsEdge, IsWorker, IsSource, Folds, IsJoin, OnlyStreams, folds_from, streams_from}
+use Rattle.plan_machine.specs.Batch.{Batch, gathered}
+use Rattle.plan_machine.specs.Plan.{Plan, Node, IsNode, IsWorker, Folds, folds_from, streams_from}
 use Rattle.plan_machine.specs.State.{State, Task, opening, tail_rows}
 use Rattle.plan_machine.specs.Enabled.{Enabled, CanStop, MayFinish}
 use Rattle.plan_machine.specs.After.{after, claimed, landed, delivered, stopped, below, is_done}
 use Rattle.plan_machine.specs.History.{IsLegal, IsHistory}
-use Rattle.plan_machine.specs.Meaning.{meaning, meaning_within}
-use Rattle.plan_machine.specs.WellFormed.{Streams, Lawful, WellFormed, IsInput, IsPlaced, IsSinkNode}
+use Rattle.plan_machine.specs.Meaning.{meaning_within}
+use Rattle.plan_machine.specs.WellFormed.{Streams, Lawful, WellFormed}
 use Rattle.plan_machine.specs.Bound.{gives}
 use Rattle.plan_machine.specs.Budget.{IsBudget, most}
 use Rattle.plan_machine.specs.Laws.{NoMoreEntries}
@@ -24,7 +24,6 @@ use Rattle.plan_machine.proofs.Pieces.{pieces_from}
 use Rattle.plan_machine.proofs.Value.{view, coming, future_by, future, joined_by, tails_by, all_folded}
 use Rattle.plan_machine.proofs.Pass.{true_or_false}
 use Rattle.plan_machine.proofs.Turn.{streams_input, folds_input}
-use Rattle.plan_machine.proofs.Flight.{flying}
 use Rattle.plan_machine.proofs.Moved.{Sound}
 use Rattle.plan_machine.proofs.Claims.{claim-moved}
 use Rattle.plan_machine.proofs.Deliveries.{drop-moved, landed-moved, new_of}
@@ -33,15 +32,14 @@ use Rattle.plan_machine.proofs.Folded.{Folded}
 use Rattle.plan_machine.proofs.Stops.{kept-future, phase-same, waiting-same, phase-done, input_on, input_below, fetch}
 use Rattle.plan_machine.proofs.Opening.{opens, meaning-is}
 use Rattle.plan_machine.proofs.Steps.{Good, step, delivered-is, good-opening, claimed-failed, delivered-failed, failed-stays}
-use Rattle.plan_machine.proofs.Cost.{sum-less, sum-change, sum-upd, endings, size, come_by, stage_cost, come-less, outs, come_at, to_come, stage_of, edge_by, edge_of, edges_cost, task_cost, tasks_cost, nodes_cost, total, spent}
-use Rattle.plan_machine.proofs.Spends.{stage-left, claim-spends, drop-spends, landed-spends, finish-spends, pause-spends, resume-spends, tasks-less}
+use Rattle.plan_machine.proofs.Cost.{sum-less, sum-change, sum-upd, endings, size, come_by, stage_cost, come-less, outs, to_come, stage_of, edge_by, edge_of, task_cost, tasks_cost, total, spent}
+use Rattle.plan_machine.proofs.Spends.{stage-left, claim-spends, drop-spends, landed-spends, finish-spends, pause-spends, resume-spends}
 
 module _ {R : Type 0} (P : Plan R) (L : Lawful P) (W : WellFormed P) where
-
   no_pause : (n : ℕ) → n ≡ 0 → cond {A = ℕ} (ltb P.pause n) 2 0 ≡ 0
   no_pause n e =
       elim (leb_tells (suc P.pause) n) [
-          inl q ↦ absurd (let x = q.1 in omega arith)
+        | inl q ↦ absurd (let x = q.1 in omega arith)
         | inr q ↦ ap (λ b. cond {A = ℕ} b 2 0) q.0
       ]
 
@@ -51,7 +49,6 @@ module _ {R : Type 0} (P : Plan R) (L : Lawful P) (W : WellFormed P) where
   done-come (suc k) s m d = ap (λ q. come_by (P.node m) P.batch q (s.next m) (tail_rows P s m) (weigh size (future P (suc k) s m)) (length (s.waiting (streams_from P m)) + (to_come P k s (streams_from P m) + outs P s (streams_from P m)))) d
 
   module _ (s : State R) (S : Sound P L W s) (G : Folded P s) (n : ℕ) (can : CanStop P s n) where
-
     abbrev s' : State R
     s' = stopped P s n
 
@@ -69,27 +66,27 @@ module _ {R : Type 0} (P : Plan R) (L : Lawful P) (W : WellFormed P) where
         let x = ap (λ r. come_by (P.node m) P.batch r (s.next m) (tail_rows P s m) sz' (length (s'.waiting e) + g')) p in
         let y = ap (λ j. come_by (P.node m) P.batch (s.phase m) (s.next m) (tail_rows P s m) j (length (s'.waiting e) + g')) (sym q) in
         let gs : m ≢ n → Streams (P.node m) → length (s'.waiting e) + g' ≤ length (s.waiting e) + g = λ ne st.
-          let ip = streams_input P W m i st in
-          let c = input_on P L W s S.fit S.distinct G n can m e i ne b ip in
-          let ie : IsNode P e = (ip.node, (let z = ip.before in let y = i.1 in omega arith)) in
-          let h = stop-come k e ie (let z = ip.before in omega arith) c in
-          let w = ap length (waiting-same P L W s S.fit S.distinct G n can e c) in
-          omega arith in
+        let ip = streams_input P W m i st in
+        let c = input_on P L W s S.fit S.distinct G n can m e i ne b ip in
+        let ie : IsNode P e = (ip.node, (let z = ip.before in let y = i.1 in omega arith)) in
+        let h = stop-come k e ie (let z = ip.before in omega arith) c in
+        let w = ap length (waiting-same P L W s S.fit S.distinct G n can e c) in
+        omega arith in
         let z = come-less (P.node m) P.batch (s.phase m) (s.next m) (tail_rows P s m) sz (length (s.waiting e) + g) (length (s'.waiting e) + g')
-          (λ r j. elim (same_or m n) [
-              inl t ↦ absurd (let f : true ≡ false = sym j ∙ ap (λ k. (P.node k).streams) t ∙ (fetch P L W s S.fit S.distinct G n can).1 in cc)
-            | inr t ↦ gs t (inr (S.fit.started.folding m i r, j))
-          ])
-          (λ r. elim (same_or m n) [
-              inl t ↦ absurd (let f : Streaming ≡ Folding = sym r ∙ ap s.phase t ∙ can.folding in cc)
-            | inr t ↦ gs t (S.fit.started.streaming m i r)
-          ]) in
+        (λ r j. elim (same_or m n) [
+          | inl t ↦ absurd (let f : true ≡ false = sym j ∙ ap (λ k. (P.node k).streams) t ∙ (fetch P L W s S.fit S.distinct G n can).1 in cc)
+          | inr t ↦ gs t (inr (S.fit.started.folding m i r, j))
+        ])
+        (λ r. elim (same_or m n) [
+          | inl t ↦ absurd (let f : Streaming ≡ Folding = sym r ∙ ap s.phase t ∙ can.folding in cc)
+          | inr t ↦ gs t (S.fit.started.streaming m i r)
+        ]) in
         omega arith
 
     stop-node : (m : ℕ) → IsNode P m → 10 * to_come P P.sink s' m + stage_of P s' m ≤ 10 * to_come P P.sink s m + stage_of P s m
     stop-node m i =
         elim (true_or_false (below P m n)) [
-            inl b ↦
+          | inl b ↦
               let d = phase-done P L W s S.fit S.distinct G n can m b in
               let x = done-come P.sink s' m d in
               let y : stage_of P s' m ≡ 0 = ap (λ q. stage_cost (endings P s' m) q) d in
@@ -99,10 +96,11 @@ module _ {R : Type 0} (P : Plan R) (L : Lawful P) (W : WellFormed P) where
               let y : stage_of P s' m ≡ stage_of P s m = ap (λ q. stage_cost (endings P s m) q) (phase-same P L W s S.fit S.distinct G n can m b) in
               omega arith
         ]
+
     stop-edge : (m : ℕ) → edge_of P s' m ≤ edge_of P s m
     stop-edge m =
         elim (true_or_false (below P m n)) [
-            inl b ↦
+          | inl b ↦
               let x : edge_of P s' m ≡ edge_by P false 0 = ap (λ c. edge_by P (cond c false (s.paused m)) (length (cond {A = List (Batch R)} c [] (s.waiting m)))) b in
               let y = no_pause 0 refl in
               omega arith
@@ -137,9 +135,9 @@ module _ {R : Type 0} (P : Plan R) (L : Lawful P) (W : WellFormed P) where
       let F = G.sound.fit in
       let i = (F.tasks w t en.0 b).0 in
       let x : total P (delivered P s w (Some t)) + 1 ≤ total P s =
-        delivered-is P L W (λ s'. total P s' + 1 ≤ total P s) s w t en.0 b F ok
-        (λ d. spent P L W s (record s { tasks = upd s.tasks w None }) t.node [] G.sound (drop-moved P L W s F w t en.0 b d) (drop-spends P L W s F w t en.0 b d) i)
-        (λ p f. spent P L W s (landed P s w t t.job) t.node (new_of P L W s F w t en.0 b t.job) G.sound (landed-moved P L W s F w t en.0 b t.job refl p f) (landed-spends P L W s F w t en.0 b t.job refl p f) i) in
+      delivered-is P L W (λ s'. total P s' + 1 ≤ total P s) s w t en.0 b F ok
+      (λ d. spent P L W s (record s { tasks = upd s.tasks w None }) t.node [] G.sound (drop-moved P L W s F w t en.0 b d) (drop-spends P L W s F w t en.0 b d) i)
+      (λ p f. spent P L W s (landed P s w t t.job) t.node (new_of P L W s F w t en.0 b t.job) G.sound (landed-moved P L W s F w t en.0 b t.job refl p f) (landed-spends P L W s F w t en.0 b t.job refl p f) i) in
       subst (λ (o : Option (Task R)). total P (delivered P s w o) + 1 ≤ total P s) (sym b) x
   step-spends s (Pause e) G ok en ok' =
       spent P L W s (record s { paused = upd s.paused e true }) e [] G.sound (paused-moved P L W s G.sound.fit e en.1.0 true) (pause-spends P L W s G.sound.fit e en.1) (en.1.0.0, (let z = en.1.0.1 in omega arith))
@@ -166,7 +164,7 @@ module _ {R : Type 0} (P : Plan R) (L : Lawful P) (W : WellFormed P) where
   fail-costs s (Deliver w) en (inl f) =
       let t : Task R = en.1.0 in
       let x : tasks_cost P (delivered P s w (Some t)).tasks + 1 ≤ tasks_cost P s.tasks =
-        subst (λ (b : Bool). tasks_cost P (cond (b || is_done (s.phase t.node)) (record s { tasks = upd s.tasks w None }) (landed P s w t t.job)).tasks + 1 ≤ tasks_cost P s.tasks) (sym f) (drop-costs s.tasks w t en.0 en.1.1) in
+      subst (λ (b : Bool). tasks_cost P (cond (b || is_done (s.phase t.node)) (record s { tasks = upd s.tasks w None }) (landed P s w t t.job)).tasks + 1 ≤ tasks_cost P s.tasks) (sym f) (drop-costs s.tasks w t en.0 en.1.1) in
       subst (λ (o : Option (Task R)). tasks_cost P (delivered P s w o).tasks + 1 ≤ tasks_cost P s.tasks) (sym en.1.1) x
   fail-costs s (Deliver w) en (inr f) = let x : true ≡ false = sym f.1 ∙ delivered-failed P L W s w (s.tasks w) ∙ f.0 in cc
   fail-costs s (Pause e) en (inl f) = let x = en.0 in cc
@@ -190,7 +188,7 @@ module _ {R : Type 0} (P : Plan R) (L : Lawful P) (W : WellFormed P) where
   run [] s G ok l = omega arith
   run (e ∷ es) s G ok l =
       elim (true_or_false (after P s e).failed) [
-          inl f ↦
+        | inl f ↦
             let x = fail-costs s e l.0 (inr (ok, f)) in
             let y = failed-run es (after P s e) f l.1 in
             omega arith
@@ -202,7 +200,6 @@ module _ {R : Type 0} (P : Plan R) (L : Lawful P) (W : WellFormed P) where
 
   -- what the opening state may cost
   module _ (rows batches : ℕ → ℕ) (B : IsBudget P rows batches) where
-
     abbrev s0 : State R
     s0 = opening P
 
@@ -246,20 +243,20 @@ module _ {R : Type 0} (P : Plan R) (L : Lawful P) (W : WellFormed P) where
         let g : ℕ = to_come P k s0 v.first + outs P s0 v.first in
         let C : Phase → ℕ = λ q. come_by v P.batch q 0 (tail_rows P s0 n) sz (0 + g) in
         let first : (Streams (P.node n)) → g ≤ batches v.first = λ st.
-          let ip = streams_input P W n i st in
-          let h = opening-come k v.first (ip.node, (let z = ip.before in let y = i.1 in omega arith)) (let z = ip.before in omega arith) in
-          let o = no_outs v.first in
-          omega arith in
+        let ip = streams_input P W n i st in
+        let h = opening-come k v.first (ip.node, (let z = ip.before in let y = i.1 in omega arith)) (let z = ip.before in omega arith) in
+        let o = no_outs v.first in
+        omega arith in
         elim (W.nodes n i).starts [
-            inl e ↦
+          | inl e ↦
               let x = ap C e in
               let b = B.of_source n i e in
               omega arith
           | inr s ↦ elim s [
-              inl f ↦
+            | inl f ↦
                 let x = ap C f in
                 elim (true_or_false v.streams) [
-                    inl j ↦
+                  | inl j ↦
                       let ne : n ≢ P.sink = λ q. let z : true ≡ false = sym j ∙ ap (λ k. (P.node k).streams) q ∙ W.sink.only_folds.0 in cc in
                       let y = ap (λ c. cond c (0 + g) 0) j in
                       let z = sized (suc k) n i (before_sink n i ne) l in
@@ -270,7 +267,7 @@ module _ {R : Type 0} (P : Plan R) (L : Lawful P) (W : WellFormed P) where
                       let y = ap (λ c. cond c (0 + g) 0) j in
                       let b = B.of_fold n i f j in
                       elim (true_or_false v.tails) [
-                          inl tl ↦
+                        | inl tl ↦
                             let ne : n ≢ P.sink = λ q. let z : true ≡ false = sym tl ∙ ap (λ k. (P.node k).tails) q ∙ W.sink.only_folds.1 in cc in
                             let z = sized (suc k) n i (before_sink n i ne) l in
                             let w = ap (λ c. cond c (rows n) 0) tl in
@@ -285,7 +282,7 @@ module _ {R : Type 0} (P : Plan R) (L : Lawful P) (W : WellFormed P) where
                 let b = B.of_stream n i o in
                 let h = first (inl o) in
                 elim (true_or_false v.cuts) [
-                    inl c ↦ let y = ap (λ c. cond c sz 0) c in let y' = ap (λ c. cond c (rows n) 0) c in omega arith
+                  | inl c ↦ let y = ap (λ c. cond c sz 0) c in let y' = ap (λ c. cond c (rows n) 0) c in omega arith
                   | inr c ↦ let y = ap (λ c. cond c sz 0) c in omega arith
                 ]
           ]
@@ -314,7 +311,7 @@ module _ {R : Type 0} (P : Plan R) (L : Lawful P) (W : WellFormed P) where
     opening-total : total P s0 ≤ most P batches
     opening-total =
         let a = sum-less P.sink (λ n. 10 * to_come P P.sink s0 n + stage_of P s0 n) (λ n. 10 * batches n + 8)
-          (λ j x y. let c = opening-come P.sink j (x, y) y in let d = stage_few (endings P s0 j) (s0.phase j) in omega arith) in
+        (λ j x y. let c = opening-come P.sink j (x, y) y in let d = stage_few (endings P s0 j) (s0.phase j) in omega arith) in
         let b = sum-zero P.sink (edge_of P s0) (λ j. let z = no_pause 0 refl in omega arith) in
         let c = sum-zero P.workers (λ w. task_cost P (s0.tasks w)) (λ j. refl) in
         omega arith

@@ -1,14 +1,14 @@
 -- What is in flight fits the state: each task the phase of its node, and what it took from there.
-use Rattle.std.proofs.Common.{◌≡◌, ℕ, zero, suc, ◌+◌, ◌<◌, ◌≤◌, ◌≢◌, ◌⊎◌, inl, inr, Bool, true, false, cond, List, [], ◌∷◌, ◌++◌, length, Option, Some, None, refl, sym, ap, subst, arith, ◌∙◌, append-nil}
+use Rattle.std.proofs.Common.{◌≡◌, ℕ, ◌≢◌, ◌⊎◌, inl, inr, true, List, [], ◌∷◌, ◌++◌, Some, refl, sym, ap, subst, arith, ◌∙◌}
 use Rattle.plan_machine.specs.declared.entry.Phase.{Phase}
-use Rattle.plan_machine.specs.declared.entry.Phase.TheVariants.{Emitting, Folding, Streaming, Tailing, Sealed, Done}
+use Rattle.plan_machine.specs.declared.entry.Phase.TheVariants.{Emitting, Folding, Streaming, Tailing, Done}
 use Rattle.plan_machine.specs.declared.entry.Job.{Job}
 use Rattle.plan_machine.specs.declared.entry.Job.TheVariants.{Emit, Fold, Seal, Stream, Close, Tail}
 use Rattle.plan_machine.specs.Lists.{gather, weigh}
 use Rattle.plan_machine.specs.Batch.{Batch}
-use Rattle.plan_machine.specs.Plan.{Plan, Node, IsNode, IsEdge, IsWorker, Folds, IsJoin, folds_from, streams_from}
+use Rattle.plan_machine.specs.Plan.{Plan, IsNode, IsEdge, IsWorker, Folds, folds_from, streams_from}
 use Rattle.plan_machine.specs.State.{State, Task, tasks_at, IsEndedEdge, opening}
-use Rattle.plan_machine.specs.WellFormed.{Streams, Lawful, WellFormed, IsInput, IsPlaced}
+use Rattle.plan_machine.specs.WellFormed.{Streams, Lawful, WellFormed, IsInput}
 use Rattle.plan_machine.proofs.Weigh.{weigh-append, same_or, upd-here, upd-else}
 use Rattle.plan_machine.proofs.Turn.{new_at, folds_input, streams_input, input_edge, Started, Agree}
 
@@ -22,7 +22,6 @@ phase_of Close = Streaming
 phase_of Tail = Tailing
 
 module _ {R : Type 0} (P : Plan R) (L : Lawful P) (W : WellFormed P) where
-
   -- a task t of worker w in flight at node m, which goes on
   abbrev pub TaskFits : State R → ℕ → ℕ → Task R → Job → Type 0
   TaskFits s m w t Emit = Unit {0}
@@ -65,7 +64,6 @@ module _ {R : Type 0} (P : Plan R) (L : Lawful P) (W : WellFormed P) where
     pub added : (e : ℕ) → IsEdge P e → P.user e ≢ a → s'.waiting e ≡ s.waiting e ++ new_at a new e
 
   module _ (s s' : State R) (a : ℕ) (new : List (Batch R)) (fresh : weigh (λ b. b.from) new ≡ 0) (A : Around s s' a new) (F : Fit s) (H : Local s s' a new) where
-
     new_else : (e : ℕ) → e ≢ a → new_at a new e ≡ []
     new_else e ne = upd-else (λ _. []) a new e ne
 
@@ -77,7 +75,7 @@ module _ {R : Type 0} (P : Plan R) (L : Lawful P) (W : WellFormed P) where
     ended-kept m e i ne p ended =
         let d = A.added e (input_edge P W m e i p) (λ u. ne (sym p.user ∙ u)) in
         elim (same_or e a) [
-            inl q ↦
+          | inl q ↦
               let l = H.live (sym (ap s.phase q) ∙ ended.0) in
               (ap s'.phase q ∙ l.0, d ∙ (let w = ended.1 in let n = new_here e q ∙ l.1 in rw (w, n) refl))
           | inr q ↦
@@ -91,16 +89,21 @@ module _ {R : Type 0} (P : Plan R) (L : Lawful P) (W : WellFormed P) where
     fits-kept w t Emit i ne p f = tt
     fits-kept w t Fold i ne p f = sym (ap (λ (l : ℕ → List (Batch R)). l w) (A.others t.node i ne).locals) ∙ f
     fits-kept w t Seal i ne p f =
-        let o = A.others t.node i ne in
-        (sym o.flight ∙ f.0, sym (ap (λ (l : ℕ → List (Batch R)). gather P.workers l) o.locals) ∙ f.1,
-        ended-kept t.node (folds_from P t.node) i ne (folds_input P W t.node i (F.started.folding t.node i p)) f.2)
+        let o = A.others t.node i ne in (
+          sym o.flight ∙ f.0,
+          sym (ap (λ (l : ℕ → List (Batch R)). gather P.workers l) o.locals) ∙ f.1,
+          ended-kept t.node (folds_from P t.node) i ne (folds_input P W t.node i (F.started.folding t.node i p)) f.2,
+        )
     fits-kept w t Stream i ne p f =
         let o = A.others t.node i ne in
         (sym o.built ∙ f.0, sym (ap (λ (l : ℕ → List (Batch R)). l w) o.locals) ∙ f.1)
     fits-kept w t Close i ne p f =
-        let o = A.others t.node i ne in
-        (sym o.flight ∙ f.0, sym (ap (λ (l : ℕ → List (Batch R)). gather P.workers l) o.locals) ∙ f.1,
-        ended-kept t.node (streams_from P t.node) i ne (streams_input P W t.node i (F.started.streaming t.node i p)) f.2, f.3)
+        let o = A.others t.node i ne in (
+          sym o.flight ∙ f.0,
+          sym (ap (λ (l : ℕ → List (Batch R)). gather P.workers l) o.locals) ∙ f.1,
+          ended-kept t.node (streams_from P t.node) i ne (streams_input P W t.node i (F.started.streaming t.node i p)) f.2,
+          f.3,
+        )
     fits-kept w t Tail i ne p f = tt
 
     task-kept : (w : ℕ) (t : Task R) → t.node ≢ a → TaskFit s w t → TaskFit s' w t
@@ -114,38 +117,38 @@ module _ {R : Type 0} (P : Plan R) (L : Lawful P) (W : WellFormed P) where
     fit-turned =
         record {
           started =
-            record {
-              folding = λ n i p. elim (same_or n a) [
-                  inl q ↦ subst (λ (m : ℕ). Folds (P.node m)) (sym q) (H.folding (sym (ap s'.phase q) ∙ p))
-                | inr q ↦ F.started.folding n i ((A.others n i q).phase ∙ p)
-              ];
-              streaming = λ n i p. elim (same_or n a) [
-                  inl q ↦ subst (λ (m : ℕ). Streams (P.node m)) (sym q) (H.streaming (sym (ap s'.phase q) ∙ p))
-                | inr q ↦ F.started.streaming n i ((A.others n i q).phase ∙ p)
-              ];
-            };
+              record {
+                folding = λ n i p. elim (same_or n a) [
+                  | inl q ↦ subst (λ (m : ℕ). Folds (P.node m)) (sym q) (H.folding (sym (ap s'.phase q) ∙ p))
+                  | inr q ↦ F.started.folding n i ((A.others n i q).phase ∙ p)
+                ];
+                streaming = λ n i p. elim (same_or n a) [
+                  | inl q ↦ subst (λ (m : ℕ). Streams (P.node m)) (sym q) (H.streaming (sym (ap s'.phase q) ∙ p))
+                  | inr q ↦ F.started.streaming n i ((A.others n i q).phase ∙ p)
+                ];
+              };
           next_fold = λ n i p. elim (same_or n a) [
-              inl q ↦ ap s'.next q ∙ H.next_fold (sym (ap s'.phase q) ∙ p)
+            | inl q ↦ ap s'.next q ∙ H.next_fold (sym (ap s'.phase q) ∙ p)
             | inr q ↦ sym (A.others n i q).next ∙ F.next_fold n i ((A.others n i q).phase ∙ p)
           ];
           next_stream = λ n i p. elim (same_or n a) [
-              inl q ↦ ap s'.next q ∙ H.next_stream (sym (ap s'.phase q) ∙ p)
+            | inl q ↦ ap s'.next q ∙ H.next_stream (sym (ap s'.phase q) ∙ p)
             | inr q ↦ sym (A.others n i q).next ∙ F.next_stream n i ((A.others n i q).phase ∙ p)
           ];
           from_fold = λ n i p j. elim (same_or n a) [
-              inl q ↦ ap (λ m. weigh (λ b. b.from) (s'.waiting (streams_from P m))) q ∙ H.from_fold (sym (ap s'.phase q) ∙ p) (sym (ap (λ m. (P.node m).streams) q) ∙ j)
+            | inl q ↦ ap (λ m. weigh (λ b. b.from) (s'.waiting (streams_from P m))) q ∙ H.from_fold (sym (ap s'.phase q) ∙ p) (sym (ap (λ m. (P.node m).streams) q) ∙ j)
             | inr q ↦
-              let ph = (A.others n i q).phase ∙ p in
-              let z = F.from_fold n i ph j in
-              let e : ℕ = streams_from P n in
-              let inp = streams_input P W n i (inr (F.started.folding n i ph, j)) in
-              let d = ap (weigh (λ b. b.from)) (A.added e (input_edge P W n e i inp) (λ u. q (sym inp.user ∙ u))) in
-              let w = weigh-append (λ b. b.from) (s.waiting e) (new_at a new e) in
-              let f = fresh_at e in
-              omega arith
+                let ph = (A.others n i q).phase ∙ p in
+                let z = F.from_fold n i ph j in
+                let e : ℕ = streams_from P n in
+                let inp = streams_input P W n i (inr (F.started.folding n i ph, j)) in
+                let d = ap (weigh (λ b. b.from)) (A.added e (input_edge P W n e i inp) (λ u. q (sym inp.user ∙ u))) in
+                let w = weigh-append (λ b. b.from) (s.waiting e) (new_at a new e) in
+                let f = fresh_at e in
+                omega arith
           ];
           tasks = λ w t i b. elim (same_or t.node a) [
-              inl q ↦ H.here w t i b q
+            | inl q ↦ H.here w t i b q
             | inr q ↦ task-kept w t q (F.tasks w t i (H.elsewhere w t i b q))
           ];
         }

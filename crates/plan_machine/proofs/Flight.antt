@@ -1,13 +1,12 @@
 -- Tasks in flight and workers' lists, where those of one worker change.
-use Rattle.std.proofs.Common.{◌≡◌, ℕ, zero, suc, ◌+◌, ◌<◌, ◌≤◌, ◌≢◌, ◌⊎◌, inl, inr, Bool, true, false, cond, eqb, List, [], ◌∷◌, ◌++◌, length, Option, Some, None, refl, sym, ap, subst, arith, ◌∙◌, append-nil}
+use Rattle.std.proofs.Common.{◌≡◌, ℕ, zero, suc, ◌+◌, ◌≤◌, ◌≢◌, inl, inr, List, [], ◌∷◌, Option, Some, None, refl, sym, ap, arith, ◌∙◌, append-nil}
 use Rattle.std.proofs.lemmas.Bool.Decides.{eqb_tells}
 use Rattle.plan_machine.specs.declared.entry.Job.{Job}
 use Rattle.plan_machine.specs.declared.entry.Job.TheVariants.{Emit, Fold, Seal, Stream, Close, Tail}
 use Rattle.plan_machine.specs.Lists.{upd, gather, weigh}
-use Rattle.plan_machine.specs.Batch.{Batch}
 use Rattle.plan_machine.specs.Plan.{Plan, IsWorker}
 use Rattle.plan_machine.specs.State.{Task, on_node}
-use Rattle.plan_machine.proofs.Weigh.{weigh-append, weigh-flat, upd-here, upd-else, same_or, gather-same, gather-change, gather-none, gather-nil}
+use Rattle.plan_machine.proofs.Weigh.{upd-here, upd-else, same_or, gather-same, gather-change, gather-none, gather-nil}
 
 -- one for a seal or a closing, and one for any other job
 abbrev pub ends : Job → ℕ
@@ -35,7 +34,7 @@ pub gather-alone : {A : Type 0} (n w : ℕ) (f : ℕ → List A) (xs : List A) �
 gather-alone zero w f xs l m e z = absurd (omega arith)
 gather-alone (suc n) w f xs l m e z =
     elim (same_or w (suc n)) [
-        inl q ↦
+      | inl q ↦
           let a : gather n f ≡ [] = gather-nil n f (λ j a b. z j a (omega arith) (λ s. absurd (omega arith))) in
           let b : f (suc n) ≡ xs = sym (ap f q) ∙ e in
           rw (a, b) refl
@@ -46,7 +45,6 @@ gather-alone (suc n) w f xs l m e z =
     ]
 
 module _ {R : Type 0} (P : Plan R) where
-
   -- the tasks at node n, of tasks by worker
   abbrev pub flying : (ℕ → Option (Task R)) → ℕ → List (Task R)
   flying ts n = gather P.workers (λ w. on_node P n (ts w))
@@ -62,7 +60,7 @@ module _ {R : Type 0} (P : Plan R) where
   flying-same ts w x n e =
       gather-same P.workers (λ j. on_node P n (ts j)) (λ j. on_node P n (upd ts w x j))
       (λ j _ _. elim (same_or j w) [
-          inl q ↦ ap (λ k. on_node P n (ts k)) q ∙ e ∙ ap (on_node P n) (sym (ap (upd ts w x) q ∙ upd-here ts w x))
+        | inl q ↦ ap (λ k. on_node P n (ts k)) q ∙ e ∙ ap (on_node P n) (sym (ap (upd ts w x) q ∙ upd-here ts w x))
         | inr q ↦ ap (on_node P n) (sym (upd-else ts w x j q))
       ])
 

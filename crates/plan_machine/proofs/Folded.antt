@@ -1,23 +1,20 @@
 -- What a node notes of the batches that it folded is what its workers hold, but for batches in flight.
-use Rattle.std.proofs.Common.{◌≡◌, ℕ, zero, suc, ◌+◌, ◌<◌, ◌≤◌, ◌≢◌, ◌⊎◌, inl, inr, Bool, true, false, cond, ◌||◌, List, [], ◌∷◌, ◌++◌, length, map, Option, Some, None, refl, sym, ap, subst, arith, ◌∙◌, append-nil}
+use Rattle.std.proofs.Common.{◌≡◌, ℕ, ◌+◌, ◌≢◌, inl, inr, Bool, true, false, List, [], ◌∷◌, ◌++◌, Option, Some, None, refl, sym, ap, arith, ◌∙◌}
 use Rattle.plan_machine.specs.declared.entry.Phase.{Phase}
-use Rattle.plan_machine.specs.declared.entry.Phase.TheVariants.{Emitting, Folding, Streaming, Tailing, Sealed, Done}
+use Rattle.plan_machine.specs.declared.entry.Phase.TheVariants.{Emitting, Folding, Streaming, Tailing, Done}
 use Rattle.plan_machine.specs.declared.entry.Job.{Job}
 use Rattle.plan_machine.specs.declared.entry.Job.TheVariants.{Emit, Fold, Seal, Stream, Close, Tail}
 use Rattle.plan_machine.specs.Phases.{phase_after_seal_of}
-use Rattle.plan_machine.specs.Lists.{upd, at_or, without, gather, weigh}
+use Rattle.plan_machine.specs.Lists.{upd, at_or, gather, weigh}
 use Rattle.plan_machine.specs.Batch.{Batch, blank}
-use Rattle.plan_machine.specs.Plan.{Plan, Node, IsNode, IsWorker, folds_from, streams_from}
+use Rattle.plan_machine.specs.Plan.{Plan, IsWorker, folds_from, streams_from}
 use Rattle.plan_machine.specs.State.{State, Task, on_node, opening}
-use Rattle.plan_machine.specs.Enabled.{Ready, CanDo}
-use Rattle.plan_machine.specs.After.{claimed, landed, delivered, task_of, is_done}
-use Rattle.plan_machine.specs.WellFormed.{Lawful, WellFormed}
+use Rattle.plan_machine.specs.After.{claimed, landed, task_of}
 use Rattle.plan_machine.proofs.Weigh.{weigh-append, upd-here, upd-else, same_or, gather-nil}
 use Rattle.plan_machine.proofs.Flight.{flying, flying-same, flying-more, flying-less, locals-change, on_node-else}
-use Rattle.plan_machine.proofs.Fit.{phase_of, TaskFits, TaskFit, Fit}
+use Rattle.plan_machine.proofs.Fit.{phase_of}
 
 module _ {R : Type 0} (P : Plan R) where
-
   abbrev pub FoldedAt : State R → ℕ → Type 0
   FoldedAt s n = (H : Batch R → ℕ) → weigh H (s.folded n) ≡ weigh H (gather P.workers (s.locals n)) + weigh (λ t. weigh H t.took) (flying P s.tasks n)
 
@@ -31,7 +28,6 @@ module _ {R : Type 0} (P : Plan R) where
       omega arith
 
   module _ (s : State R) (G : Folded s) (w : ℕ) (iw : IsWorker P w) where
-
     -- a node elsewhere
     elsewhere : (x : Option (Task R)) (l' : ℕ → List (Batch R)) (m : ℕ) → s.phase m ≡ Folding → s.locals m ≡ l' → flying P s.tasks m ≡ flying P (upd s.tasks w x) m → (H : Batch R → ℕ) → weigh H (s.folded m) ≡ weigh H (gather P.workers l') + weigh (λ t. weigh H t.took) (flying P (upd s.tasks w x) m)
     elsewhere x l' m p l f H =
@@ -50,7 +46,7 @@ module _ {R : Type 0} (P : Plan R) where
     count_claim : (n : ℕ) (t : Task R) → t.node ≡ n → t.took ≡ [] → s.tasks w ≡ None → (m : ℕ) → s.phase m ≡ Folding → (H : Batch R → ℕ) → weigh H (s.folded m) ≡ weigh H (gather P.workers (s.locals m)) + weigh (λ t. weigh H t.took) (flying P (upd s.tasks w (Some t)) m)
     count_claim n t e tk free m p H =
         elim (same_or m n) [
-            inl q ↦
+          | inl q ↦
               let g = G m p H in
               let c = flying-more P (λ t. weigh H t.took) s.tasks w t m iw free (e ∙ sym q) in
               let k = ap (weigh H) tk in
@@ -62,7 +58,7 @@ module _ {R : Type 0} (P : Plan R) where
     list_claim : (n : ℕ) (t : Task R) → t.node ≡ n → t.took ≡ s.locals n w → s.tasks w ≡ None → (m : ℕ) → s.phase m ≡ Folding → (H : Batch R → ℕ) → weigh H (s.folded m) ≡ weigh H (gather P.workers (upd s.locals n (upd (s.locals n) w []) m)) + weigh (λ t. weigh H t.took) (flying P (upd s.tasks w (Some t)) m)
     list_claim n t e tk free m p H =
         elim (same_or m n) [
-            inl q ↦
+          | inl q ↦
               let g = G m p H in
               let c = flying-more P (λ t. weigh H t.took) s.tasks w t m iw free (e ∙ sym q) in
               let k = ap (weigh H) (tk ∙ ap (λ z. s.locals z w) (sym q)) in
@@ -78,7 +74,7 @@ module _ {R : Type 0} (P : Plan R) where
     lists_claim : (n : ℕ) (t : Task R) → t.node ≡ n → t.took ≡ gather P.workers (s.locals n) → s.tasks w ≡ None → (m : ℕ) → s.phase m ≡ Folding → (H : Batch R → ℕ) → weigh H (s.folded m) ≡ weigh H (gather P.workers (upd s.locals n (λ _. []) m)) + weigh (λ t. weigh H t.took) (flying P (upd s.tasks w (Some t)) m)
     lists_claim n t e tk free m p H =
         elim (same_or m n) [
-            inl q ↦
+          | inl q ↦
               let g = G m p H in
               let c = flying-more P (λ t. weigh H t.took) s.tasks w t m iw free (e ∙ sym q) in
               let k = ap (weigh H) (tk ∙ ap (λ z. gather P.workers (s.locals z)) (sym q)) in
@@ -98,12 +94,11 @@ module _ {R : Type 0} (P : Plan R) where
     folded-claim n Tail k free m p H = count_claim n (task_of s n Tail k blank []) refl refl free m p H
 
     module _ (t : Task R) (busy : s.tasks w ≡ Some t) where
-
       -- a delivery at a node that doesn't fold then
       no_fold : (q : Phase) → s.phase t.node ≡ q → (q ≡ Folding → ⊥) → (l' : ℕ → ℕ → List (Batch R)) → ((m : ℕ) → m ≢ t.node → s.locals m ≡ l' m) → (m : ℕ) → s.phase m ≡ Folding → (H : Batch R → ℕ) → weigh H (s.folded m) ≡ weigh H (gather P.workers (l' m)) + weigh (λ t. weigh H t.took) (flying P (upd s.tasks w None) m)
       no_fold q e nf l' l m p H =
           elim (same_or m t.node) [
-              inl z ↦ absurd (nf (sym e ∙ ap s.phase (sym z) ∙ p))
+            | inl z ↦ absurd (nf (sym e ∙ ap s.phase (sym z) ∙ p))
             | inr z ↦ elsewhere None (l' m) m p (l m z) (done_flight t busy m z) H
           ]
 
@@ -111,7 +106,7 @@ module _ {R : Type 0} (P : Plan R) where
       left_fold : (q : Phase) → (q ≡ Folding → ⊥) → (m : ℕ) → upd s.phase t.node q m ≡ Folding → (H : Batch R → ℕ) → weigh H (s.folded m) ≡ weigh H (gather P.workers (s.locals m)) + weigh (λ t. weigh H t.took) (flying P (upd s.tasks w None) m)
       left_fold q nf m p H =
           elim (same_or m t.node) [
-              inl z ↦ absurd (nf (sym (ap (upd s.phase t.node q) z ∙ upd-here s.phase t.node q) ∙ p))
+            | inl z ↦ absurd (nf (sym (ap (upd s.phase t.node q) z ∙ upd-here s.phase t.node q) ∙ p))
             | inr z ↦ elsewhere None (s.locals m) m (sym (upd-else s.phase t.node q m z) ∙ p) refl (done_flight t busy m z) H
           ]
 
@@ -127,7 +122,7 @@ module _ {R : Type 0} (P : Plan R) where
       folded-landed Emit e l m p H = no_fold Emitting e (λ z. cc) s.locals (λ m _. refl) m p H
       folded-landed Fold e l m p H =
           elim (same_or m t.node) [
-              inl z ↦
+            | inl z ↦
                 let x : List (Batch R) = t.took ++ t.batch ∷ [] in
                 let g = G m p H in
                 let c = flying-less P (λ t. weigh H t.took) s.tasks w t m iw busy (sym z) in
@@ -155,6 +150,6 @@ module _ {R : Type 0} (P : Plan R) where
   pub folded-finish : (s : State R) (n : ℕ) → Folded s → Folded (record s { phase = upd s.phase n Done })
   folded-finish s n G m p H =
       elim (same_or m n) [
-          inl z ↦ let y : Done ≡ Folding = sym (ap (upd s.phase n Done) z ∙ upd-here s.phase n Done) ∙ p in cc
+        | inl z ↦ let y : Done ≡ Folding = sym (ap (upd s.phase n Done) z ∙ upd-here s.phase n Done) ∙ p in cc
         | inr z ↦ G m (sym (upd-else s.phase n Done m z) ∙ p) H
       ]

@@ -1,13 +1,7 @@
 -- Every legal history that ends gives the sink the rows of the plan's meaning.
-use Rattle.std.proofs.Common.{◌≡◌, List, refl, sym, ap, ◌∙◌}
-use Rattle.plan_machine.specs.declared.entry.Phase.{Phase}
-use Rattle.plan_machine.specs.declared.entry.Phase.TheVariants.{Done}
-use Rattle.plan_machine.specs.declared.entry.Entry.{Entry}
-use Rattle.plan_machine.specs.Plan.{Plan, Node}
+use Rattle.std.proofs.Common.{◌≡◌, sym, ap}
 use Rattle.plan_machine.specs.State.{State, opening}
-use Rattle.plan_machine.specs.History.{IsHistory, state_after, IsEnded, result_rows}
-use Rattle.plan_machine.specs.Meaning.{SameRows, meaning}
-use Rattle.plan_machine.specs.WellFormed.{Lawful, WellFormed, IsSinkNode}
+use Rattle.plan_machine.specs.History.{state_after, result_rows}
 use Rattle.plan_machine.specs.Laws.{RowsKept}
 use Rattle.plan_machine.proofs.Same.{SameRows-sym, SameRows-trans, SameRows-looser, SameRows-equal}
 use Rattle.plan_machine.proofs.Value.{answer, base_by, view, coming, future}

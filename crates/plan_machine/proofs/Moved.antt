@@ -1,25 +1,24 @@
 -- What one entry at one node has to show.
-use Rattle.std.proofs.Common.{◌≡◌, ℕ, zero, suc, ◌+◌, ◌<◌, ◌≤◌, ◌≢◌, ◌⊎◌, inl, inr, Bool, true, false, cond, eqb, List, [], ◌∷◌, ◌++◌, length, Option, Some, None, refl, sym, ap, subst, arith, ◌∙◌, append-nil}
+use Rattle.std.proofs.Common.{◌≡◌, ℕ, ◌+◌, ◌≢◌, ◌⊎◌, inl, inr, Bool, true, false, cond, eqb, List, [], ◌++◌, Option, Some, None, refl, sym, ap, subst, arith, ◌∙◌, append-nil}
 use Rattle.plan_machine.specs.declared.entry.Phase.{Phase}
-use Rattle.plan_machine.specs.declared.entry.Phase.TheVariants.{Emitting, Folding, Streaming, Tailing, Sealed, Done}
+use Rattle.plan_machine.specs.declared.entry.Phase.TheVariants.{Folding}
 use Rattle.plan_machine.specs.declared.entry.Job.{Job}
 use Rattle.plan_machine.specs.declared.entry.Job.TheVariants.{Emit, Fold, Seal, Stream, Close, Tail}
 use Rattle.plan_machine.specs.Lists.{upd, gather, weigh}
 use Rattle.plan_machine.specs.Batch.{Batch}
-use Rattle.plan_machine.specs.Plan.{Plan, Node, IsNode, IsWorker, folds_from, streams_from}
-use Rattle.plan_machine.specs.State.{State, Task, on_node, IsEndedEdge}
+use Rattle.plan_machine.specs.Plan.{Plan}
+use Rattle.plan_machine.specs.State.{State, Task, on_node}
 use Rattle.plan_machine.specs.Meaning.{SameRows}
 use Rattle.plan_machine.specs.WellFormed.{Lawful, WellFormed}
 use Rattle.plan_machine.proofs.Weigh.{weigh-append, weigh-flat, upd-here, upd-else, same_or, flat}
 use Rattle.plan_machine.proofs.Same.{Same}
 use Rattle.plan_machine.proofs.Value.{base_by, future_by, view, coming, future_with, base_with, gives_of, holds_of, answer}
 use Rattle.plan_machine.proofs.Pass.{fold_kept}
-use Rattle.plan_machine.proofs.Turn.{new_at, Started, Known, Turn, folded_all, AllDistinct, AllDistinct-turned, answer-turned}
-use Rattle.plan_machine.proofs.Flight.{ends, flying, flying-same, flying-more, flying-less, on_node-else}
-use Rattle.plan_machine.proofs.Fit.{phase_of, TaskFits, InPhase, Fits, TaskFit, Fit, Local, Around, fit-turned}
+use Rattle.plan_machine.proofs.Turn.{new_at, Known, Turn, folded_all, AllDistinct, AllDistinct-turned, answer-turned}
+use Rattle.plan_machine.proofs.Flight.{ends, flying, flying-same, on_node-else}
+use Rattle.plan_machine.proofs.Fit.{TaskFits, InPhase, TaskFit, Fit, Local, Around, fit-turned}
 
 module _ {R : Type 0} (P : Plan R) (L : Lawful P) (W : WellFormed P) where
-
   pub record Moved (s s' : State R) (at : ℕ) (new : List (Batch R)) : Type 0 where
     pub fresh : weigh (λ b. b.from) new ≡ 0
     pub was : Phase
@@ -39,11 +38,11 @@ module _ {R : Type 0} (P : Plan R) (L : Lawful P) (W : WellFormed P) where
         others = M.around.others;
         added = M.around.added;
         gives = λ f K.
-          let x = subst (λ (q : Phase). Same (P.node a).kept (future_by (P.node a) P.batch q (view P s a) (coming P s f a)) (new ++ future_by (P.node a) P.batch M.is (view P s' a) (coming P s' f a))) (sym M.before) (M.gives f K) in
-          subst (λ (q : Phase). Same (P.node a).kept (future_with P s f a) (new ++ future_by (P.node a) P.batch q (view P s' a) (coming P s' f a))) (sym M.after) x;
+            let x = subst (λ (q : Phase). Same (P.node a).kept (future_by (P.node a) P.batch q (view P s a) (coming P s f a)) (new ++ future_by (P.node a) P.batch M.is (view P s' a) (coming P s' f a))) (sym M.before) (M.gives f K) in
+            subst (λ (q : Phase). Same (P.node a).kept (future_with P s f a) (new ++ future_by (P.node a) P.batch q (view P s' a) (coming P s' f a))) (sym M.after) x;
         base = λ f K.
-          let x = subst (λ (q : Phase). SameRows (fold_kept P L W a) (base_by q (view P s a) (coming P s f a)) (base_by M.is (view P s' a) (coming P s' f a))) (sym M.before) (M.base f K) in
-          subst (λ (q : Phase). SameRows (fold_kept P L W a) (base_with P s f a) (base_by q (view P s' a) (coming P s' f a))) (sym M.after) x;
+            let x = subst (λ (q : Phase). SameRows (fold_kept P L W a) (base_by q (view P s a) (coming P s f a)) (base_by M.is (view P s' a) (coming P s' f a))) (sym M.before) (M.base f K) in
+            subst (λ (q : Phase). SameRows (fold_kept P L W a) (base_with P s f a) (base_by q (view P s' a) (coming P s' f a))) (sym M.after) x;
         folds = λ f p. let z = M.folds f (sym M.after ∙ p) in (M.before ∙ z.0, z.1);
       }
 
@@ -56,12 +55,13 @@ module _ {R : Type 0} (P : Plan R) (L : Lawful P) (W : WellFormed P) where
   -- After an entry that moves one node the state is as sound, and the rows of the sink are the same.
   pub moved-sound : (s s' : State R) (a : ℕ) (new : List (Batch R)) → Sound s → Moved s s' a new → Sound s' × SameRows (fold_kept P L W P.sink) (answer P s) (answer P s')
   moved-sound s s' a new S M =
-      let T = turn_of s s' a new M in
-      (record {
+      let T = turn_of s s' a new M in (
+        record {
           fit = fit-turned P L W s s' a new M.fresh M.around S.fit M.local;
           distinct = AllDistinct-turned P L W s s' a new S.fit.started T S.distinct;
         },
-      answer-turned P L W s s' a new S.fit.started T S.distinct)
+        answer-turned P L W s s' a new S.fit.started T S.distinct,
+      )
 
   -- an entry that gives no batch
   nothing : {A : Type 0} (b : Bool) → cond {A = List A} b [] [] ≡ []
@@ -94,26 +94,25 @@ module _ {R : Type 0} (P : Plan R) (L : Lawful P) (W : WellFormed P) where
       by_job Tail e f = tt
 
   module _ (ts : ℕ → Option (Task R)) (w : ℕ) where
-
     -- the tasks after worker w took task t at node n
     pub claim-elsewhere : (t : Task R) (v : ℕ) (u : Task R) → upd ts w (Some t) v ≡ Some u → u.node ≢ t.node → ts v ≡ Some u
     claim-elsewhere t v u e ne =
         elim (same_or v w) [
-            inl q ↦ let z : Some t ≡ Some u = sym (ap (upd ts w (Some t)) q ∙ upd-here ts w (Some t)) ∙ e in absurd (ne (let y : t ≡ u = cc in ap (λ (x : Task R). x.node) (sym y)))
+          | inl q ↦ let z : Some t ≡ Some u = sym (ap (upd ts w (Some t)) q ∙ upd-here ts w (Some t)) ∙ e in absurd (ne (let y : t ≡ u = cc in ap (λ (x : Task R). x.node) (sym y)))
           | inr q ↦ sym (upd-else ts w (Some t) v q) ∙ e
         ]
 
     pub claim-here : (t : Task R) (v : ℕ) (u : Task R) → upd ts w (Some t) v ≡ Some u → ((v ≡ w) × (t ≡ u)) ⊎ ((v ≢ w) × (ts v ≡ Some u))
     claim-here t v u e =
         elim (same_or v w) [
-            inl q ↦ let z : Some t ≡ Some u = sym (ap (upd ts w (Some t)) q ∙ upd-here ts w (Some t)) ∙ e in inl (q, cc)
+          | inl q ↦ let z : Some t ≡ Some u = sym (ap (upd ts w (Some t)) q ∙ upd-here ts w (Some t)) ∙ e in inl (q, cc)
           | inr q ↦ inr (q, sym (upd-else ts w (Some t) v q) ∙ e)
         ]
 
     pub done-here : (v : ℕ) (u : Task R) → upd ts w None v ≡ Some u → (v ≢ w) × (ts v ≡ Some u)
     done-here v u e =
         elim (same_or v w) [
-            inl q ↦ let z : None ≡ Some u = sym (ap (upd ts w None) q ∙ upd-here ts w None) ∙ e in cc
+          | inl q ↦ let z : None ≡ Some u = sym (ap (upd ts w None) q ∙ upd-here ts w None) ∙ e in cc
           | inr q ↦ (q, sym (upd-else ts w None v q) ∙ e)
         ]
 

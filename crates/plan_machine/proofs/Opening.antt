@@ -1,24 +1,21 @@
 -- What each node gives from the opening state on is its meaning.
-use Rattle.std.proofs.Common.{◌≡◌, ℕ, zero, suc, ◌+◌, ◌<◌, ◌≤◌, ◌≢◌, ◌⊎◌, inl, inr, Bool, true, false, cond, List, [], ◌∷◌, ◌++◌, length, map, Option, Some, None, refl, sym, ap, ap₂, subst, arith, ◌∙◌, append-nil}
-use Rattle.plan_machine.specs.declared.entry.Phase.{Phase}
-use Rattle.plan_machine.specs.declared.entry.Phase.TheVariants.{Emitting, Folding, Streaming, Tailing, Sealed, Done}
-use Rattle.plan_machine.specs.Lists.{gather, weigh}
+use Rattle.std.proofs.Common.{◌≡◌, ℕ, zero, suc, ◌+◌, ◌<◌, ◌≤◌, inl, inr, Bool, true, false, cond, List, [], ◌∷◌, ◌++◌, map, refl, sym, ap, ap₂, subst, arith, ◌∙◌, append-nil}
+use Rattle.plan_machine.specs.Lists.{weigh}
 use Rattle.plan_machine.specs.Batch.{Batch, key, key_of, rows_of, gathered, marked}
-use Rattle.plan_machine.specs.Plan.{Plan, Node, IsNode, IsSource, Folds, IsJoin, OnlyStreams, folds_from, streams_from}
-use Rattle.plan_machine.specs.State.{State, Task, on_node, opening}
+use Rattle.plan_machine.specs.Plan.{Plan, Node, IsNode, IsSource, Folds, IsJoin, OnlyStreams, folds_from}
+use Rattle.plan_machine.specs.State.{State, on_node, opening}
 use Rattle.plan_machine.specs.Meaning.{SameRows, SameSet, whole_by, whole, meaning_within, meaning}
-use Rattle.plan_machine.specs.WellFormed.{Streams, Lawful, LawfulNode, WellFormed, IsInput, IsPlaced, IsSinkNode}
+use Rattle.plan_machine.specs.WellFormed.{Lawful, WellFormed, IsInput}
 use Rattle.plan_machine.proofs.Weigh.{weigh-append, weigh-map, weigh-same, weigh-rows, flat, gather-nil}
 use Rattle.plan_machine.proofs.Sorting.{weigh-gathered}
-use Rattle.plan_machine.proofs.Same.{Same, IsDistinct, SameRows-refl, SameRows-trans, SameRows-weigh, SameRows-equal, SameRows-looser, SameSet-refl, SameSet-weigh}
+use Rattle.plan_machine.proofs.Same.{IsDistinct, SameRows-trans, SameRows-weigh, SameRows-equal, SameSet-refl, SameSet-weigh}
 use Rattle.plan_machine.proofs.Pieces.{pieces_from, gathered-pieces, pieces-distinct, weigh-pieces_from, gathered-map, map-distinct, part-weigh}
-use Rattle.plan_machine.proofs.Value.{whole_of, remains_of, View, Coming, all_folded, all_streamed, base_by, tails_by, joined_by, view, coming, gives_of, holds_of, future_by, future_with, base_with, future, answer}
+use Rattle.plan_machine.proofs.Value.{whole_of, View, Coming, all_folded, all_streamed, base_by, tails_by, joined_by, view, coming, gives_of, holds_of, future_by, future_with, future, answer}
 use Rattle.plan_machine.proofs.Pass.{true_or_false, fold_kept}
-use Rattle.plan_machine.proofs.Turn.{folds_input, streams_input, AllDistinct, future-done}
+use Rattle.plan_machine.proofs.Turn.{folds_input, streams_input, AllDistinct}
 use Rattle.plan_machine.proofs.Flight.{flying}
 
 module _ {R : Type 0} where
-
   -- what streams row by row, from what came
   streamed-opens : (kept ke : Bool) (g : Batch R → Batch R) (p : List R → List R) → (kept ≡ true → ke ≡ true) → p [] ≡ [] → ((xs ys : List R) → p (xs ++ ys) ≡ p xs ++ p ys) → ((x : Batch R) → (g x).rows ≡ p x.rows) → (kept ≡ true → (x : Batch R) → key (g x) ≡ key x) → (xs : List (Batch R)) (m : List R) → SameRows ke (gathered xs) m → SameRows kept (gathered (map g xs)) (p m)
   streamed-opens true true g p o n a e k xs m s = gathered-map g p n a e (k refl) xs ∙ ap p s
@@ -40,7 +37,6 @@ module _ {R : Type 0} where
   weigh_rows h xs = let a = weigh-rows h xs in let b = weigh-gathered h xs in omega arith
 
 module _ {R : Type 0} (P : Plan R) (L : Lawful P) (W : WellFormed P) where
-
   abbrev s0 : State R
   s0 = opening P
 
@@ -74,16 +70,16 @@ module _ {R : Type 0} (P : Plan R) (L : Lawful P) (W : WellFormed P) where
   whole-same : (n : ℕ) → IsNode P n → (m m' : ℕ → List R) → ((e : ℕ) → IsInput P n e → m e ≡ m' e) → whole (P.node n) (m (P.node n).first) (m (P.node n).second) ≡ whole (P.node n) (m' (P.node n).first) (m' (P.node n).second)
   whole-same n i m m' e =
       elim (W.nodes n i).starts [
-          inl s ↦ whole-source n (m (P.node n).first) (m (P.node n).second) s ∙ sym (whole-source n (m' (P.node n).first) (m' (P.node n).second) s)
+        | inl s ↦ whole-source n (m (P.node n).first) (m (P.node n).second) s ∙ sym (whole-source n (m' (P.node n).first) (m' (P.node n).second) s)
         | inr s ↦ elim s [
-            inl f ↦
+          | inl f ↦
               let a = e (P.node n).first ((W.nodes n i).first (λ z. let y = sym f ∙ z in cc)) in
               elim (true_or_false (P.node n).streams) [
-                  inl j ↦ let b = e (P.node n).second ((W.nodes n i).second (f, j)) in ap₂ (whole (P.node n)) a b
+                | inl j ↦ let b = e (P.node n).second ((W.nodes n i).second (f, j)) in ap₂ (whole (P.node n)) a b
                 | inr j ↦
-                  whole-folds n (m (P.node n).first) (m (P.node n).second) f j
-                  ∙ ap (λ x. cond (P.node n).tails ((P.node n).rest x []) x) a
-                  ∙ sym (whole-folds n (m' (P.node n).first) (m' (P.node n).second) f j)
+                    whole-folds n (m (P.node n).first) (m (P.node n).second) f j
+                    ∙ ap (λ x. cond (P.node n).tails ((P.node n).rest x []) x) a
+                    ∙ sym (whole-folds n (m' (P.node n).first) (m' (P.node n).second) f j)
               ]
           | inr o ↦
               let a = e (P.node n).first ((W.nodes n i).first (λ z. let y = sym o ∙ z in cc)) in
@@ -116,12 +112,12 @@ module _ {R : Type 0} (P : Plan R) (L : Lawful P) (W : WellFormed P) where
   along n xs ys m m' e e' o = subst (λ (x : List (Batch R)). Opens n x m) (sym e) (subst (Opens n ys) (sym e') o)
 
   pieces-open : (n : ℕ) (rows : List R) → Opens n (pieces_from (P.node n).kept P.batch rows 0) rows
-  pieces-open n rows =
-      (gathered-pieces (P.node n).kept P.batch rows W.batch,
-      λ k. subst (λ (c : Bool). IsDistinct (pieces_from c P.batch rows 0)) (sym k) (pieces-distinct P.batch rows 0 _))
+  pieces-open n rows = (
+    gathered-pieces (P.node n).kept P.batch rows W.batch,
+    λ k. subst (λ (c : Bool). IsDistinct (pieces_from c P.batch rows 0)) (sym k) (pieces-distinct P.batch rows 0 _),
+  )
 
   module _ (f : ℕ → List (Batch R)) (m : ℕ → List R) (n : ℕ) (i : IsNode P n) (o : (e : ℕ) → IsInput P n e → Opens e (f e) (m e)) where
-
     abbrev v : Node R
     v = P.node n
 
@@ -149,13 +145,14 @@ module _ {R : Type 0} (P : Plan R) (L : Lawful P) (W : WellFormed P) where
         let T : List (Batch R) = pieces_from v.kept P.batch (v.rest [] (rows_of (V.held ++ all_streamed C))) 0 in
         along n _ (map (whole_of v []) (f v.first)) _ (v.part [] (m v.first))
         (ap (λ q. future_by v P.batch q V C) st
-          ∙ ap (λ (g : List (Batch R)). g ++ (map (whole_of v []) (f v.first) ++ cond v.tails T [])) (given0 n)
-          ∙ ap (λ c. map (whole_of v []) (f v.first) ++ cond c T []) ((W.nodes n i).plain st)
-          ∙ append-nil (map (whole_of v []) (f v.first)))
-        (whole-streams n (m v.first) (m v.second) st)
-        (streamed-opens v.kept (P.node v.first).kept (whole_of v []) (v.part []) ((W.nodes n i).in_order st) ((L.nodes n i).part_nil (inl st) []) ((L.nodes n i).part_append (inl st) [])
-          (λ x. refl) (λ k x. marked-key true refl v k [] x) (f v.first) (m v.first) x.0,
-        λ k. map-distinct (whole_of v []) (λ x. marked-key true refl v k [] x) (f v.first) (x.1 ((W.nodes n i).in_order st k)))
+        ∙ ap (λ (g : List (Batch R)). g ++ (map (whole_of v []) (f v.first) ++ cond v.tails T [])) (given0 n)
+        ∙ ap (λ c. map (whole_of v []) (f v.first) ++ cond c T []) ((W.nodes n i).plain st)
+        ∙ append-nil (map (whole_of v []) (f v.first)))
+        (whole-streams n (m v.first) (m v.second) st) (
+          streamed-opens v.kept (P.node v.first).kept (whole_of v []) (v.part []) ((W.nodes n i).in_order st) ((L.nodes n i).part_nil (inl st) []) ((L.nodes n i).part_append (inl st) [])
+              (λ x. refl) (λ k x. marked-key true refl v k [] x) (f v.first) (m v.first) x.0,
+          λ k. map-distinct (whole_of v []) (λ x. marked-key true refl v k [] x) (f v.first) (x.1 ((W.nodes n i).in_order st k)),
+        )
 
     opens-folds : Folds (P.node n) → (P.node n).streams ≡ false → (P.node n).tails ≡ true → Opens n (future_with P s0 f n) (whole v (m v.first) (m v.second))
     opens-folds fo j tl =
@@ -167,9 +164,9 @@ module _ {R : Type 0} (P : Plan R) (L : Lawful P) (W : WellFormed P) where
         let y = pieces-open n (v.rest b []) in
         along n _ (pieces_from v.kept P.batch (v.rest b []) 0) _ (v.rest (m (folds_from P n)) [])
         (ap (λ q. future_by v P.batch q V C) fo
-          ∙ ap (λ c. cond c (joined_by v P.batch (gathered (all_folded V C)) C) (tails_by v P.batch (gathered (all_folded V C)) [])) j
-          ∙ ap (λ c. cond c (pieces_from v.kept P.batch (v.rest (gathered (all_folded V C)) []) 0) []) tl
-          ∙ ap (λ (z : List (Batch R)). pieces_from v.kept P.batch (v.rest (gathered z) []) 0) folds-all)
+        ∙ ap (λ c. cond c (joined_by v P.batch (gathered (all_folded V C)) C) (tails_by v P.batch (gathered (all_folded V C)) [])) j
+        ∙ ap (λ c. cond c (pieces_from v.kept P.batch (v.rest (gathered (all_folded V C)) []) 0) []) tl
+        ∙ ap (λ (z : List (Batch R)). pieces_from v.kept P.batch (v.rest (gathered z) []) 0) folds-all)
         (whole-folds n (m v.first) (m v.second) fo j ∙ ap (λ c. cond c (v.rest (m v.first) []) (m v.first)) tl ∙ ap (λ k. v.rest (m k) []) (sym e))
         (SameRows-trans v.kept _ _ _ y.0 s, y.1)
 
@@ -185,41 +182,42 @@ module _ {R : Type 0} (P : Plan R) (L : Lawful P) (W : WellFormed P) where
         let loose : v.kept ≡ false = (W.nodes n i).loose_join j in
         along n _ (map (whole_of v b) (f v.first) ++ tails_by v P.batch b (rows_of (f v.first))) _ (v.part y (m v.first) ++ cond v.tails (v.rest y (m v.first)) [])
         (ap (λ q. future_by v P.batch q V C) j.0
-          ∙ ap (λ c. cond c (joined_by v P.batch (gathered (all_folded V C)) C) (tails_by v P.batch (gathered (all_folded V C)) [])) j.1
-          ∙ ap (λ (z : List (Batch R)). map (whole_of v (gathered z)) (f v.first) ++ tails_by v P.batch (gathered z) (rows_of (f v.first))) folds-all)
-        (whole-join n (m v.first) (m v.second) j ∙ ap (λ k. v.part (m k) (m v.first) ++ cond v.tails (v.rest (m k) (m v.first)) []) (sym e))
-        (subst (λ (c : Bool). SameRows c (gathered (map (whole_of v b) (f v.first) ++ tails_by v P.batch b (rows_of (f v.first)))) (v.part y (m v.first) ++ cond v.tails (v.rest y (m v.first)) [])) (sym loose)
-          (λ h.
-            let g : SameRows false (gathered (map (whole_of v b) (f v.first))) (v.part b (m v.first)) =
+        ∙ ap (λ c. cond c (joined_by v P.batch (gathered (all_folded V C)) C) (tails_by v P.batch (gathered (all_folded V C)) [])) j.1
+        ∙ ap (λ (z : List (Batch R)). map (whole_of v (gathered z)) (f v.first) ++ tails_by v P.batch (gathered z) (rows_of (f v.first))) folds-all)
+        (whole-join n (m v.first) (m v.second) j ∙ ap (λ k. v.part (m k) (m v.first) ++ cond v.tails (v.rest (m k) (m v.first)) []) (sym e)) (
+          subst (λ (c : Bool). SameRows c (gathered (map (whole_of v b) (f v.first) ++ tails_by v P.batch b (rows_of (f v.first)))) (v.part y (m v.first) ++ cond v.tails (v.rest y (m v.first)) [])) (sym loose)
+              (λ h.
+              let g : SameRows false (gathered (map (whole_of v b) (f v.first))) (v.part b (m v.first)) =
               streamed-opens false (P.node v.first).kept (whole_of v b) (v.part b) (λ z. cc) ((L.nodes n i).part_nil (inr j) b) ((L.nodes n i).part_append (inr j) b) (λ x. refl) (λ z. cc) (f v.first) (m v.first) x1.0 in
-            let g1 = g h in
-            let g2 = (L.nodes n i).part_same j b y (m v.first) x2.0 h in
-            let r : Batch R → ℕ = λ z. weigh h z.rows in
-            let a1 = weigh-gathered h (map (whole_of v b) (f v.first) ++ tails_by v P.batch b (rows_of (f v.first))) in
-            let a2 = weigh-append r (map (whole_of v b) (f v.first)) (tails_by v P.batch b (rows_of (f v.first))) in
-            let a3 = weigh-gathered h (map (whole_of v b) (f v.first)) in
-            let a4 = weigh-append h (v.part y (m v.first)) (cond v.tails (v.rest y (m v.first)) []) in
-            elim (true_or_false v.tails) [
-                inl tl ↦
-                  let t1 = ap (λ c. weigh r (cond c (pieces_from v.kept P.batch (v.rest b (rows_of (f v.first))) 0) [])) tl in
-                  let t2 = ap (λ c. weigh h (cond c (v.rest y (m v.first)) [])) tl in
-                  let t3 = weigh-pieces_from v.kept P.batch (v.rest b (rows_of (f v.first))) W.batch h in
-                  let set : SameSet (rows_of (f v.first)) (m v.first) = SameSet-weigh (rows_of (f v.first)) (m v.first) (λ h. weigh_rows h (f v.first) ∙ SameRows-weigh (P.node v.first).kept (gathered (f v.first)) (m v.first) x1.0 h) in
-                  let t4 = SameRows-weigh v.kept _ _ ((L.nodes n i).rest_same j.0 tl b y (rows_of (f v.first)) (m v.first) x2.0 set) h in
-                  omega arith
-              | inr tl ↦
-                  let t1 = ap (λ c. weigh r (cond c (pieces_from v.kept P.batch (v.rest b (rows_of (f v.first))) 0) [])) tl in
-                  let t2 = ap (λ c. weigh h (cond c (v.rest y (m v.first)) [])) tl in
-                  omega arith
-            ]),
-        λ k. let z = sym loose ∙ k in cc)
+              let g1 = g h in
+              let g2 = (L.nodes n i).part_same j b y (m v.first) x2.0 h in
+              let r : Batch R → ℕ = λ z. weigh h z.rows in
+              let a1 = weigh-gathered h (map (whole_of v b) (f v.first) ++ tails_by v P.batch b (rows_of (f v.first))) in
+              let a2 = weigh-append r (map (whole_of v b) (f v.first)) (tails_by v P.batch b (rows_of (f v.first))) in
+              let a3 = weigh-gathered h (map (whole_of v b) (f v.first)) in
+              let a4 = weigh-append h (v.part y (m v.first)) (cond v.tails (v.rest y (m v.first)) []) in
+              elim (true_or_false v.tails) [
+                | inl tl ↦
+                    let t1 = ap (λ c. weigh r (cond c (pieces_from v.kept P.batch (v.rest b (rows_of (f v.first))) 0) [])) tl in
+                    let t2 = ap (λ c. weigh h (cond c (v.rest y (m v.first)) [])) tl in
+                    let t3 = weigh-pieces_from v.kept P.batch (v.rest b (rows_of (f v.first))) W.batch h in
+                    let set : SameSet (rows_of (f v.first)) (m v.first) = SameSet-weigh (rows_of (f v.first)) (m v.first) (λ h. weigh_rows h (f v.first) ∙ SameRows-weigh (P.node v.first).kept (gathered (f v.first)) (m v.first) x1.0 h) in
+                    let t4 = SameRows-weigh v.kept _ _ ((L.nodes n i).rest_same j.0 tl b y (rows_of (f v.first)) (m v.first) x2.0 set) h in
+                    omega arith
+                | inr tl ↦
+                    let t1 = ap (λ c. weigh r (cond c (pieces_from v.kept P.batch (v.rest b (rows_of (f v.first))) 0) [])) tl in
+                    let t2 = ap (λ c. weigh h (cond c (v.rest y (m v.first)) [])) tl in
+                    omega arith
+              ]),
+          λ k. let z = sym loose ∙ k in cc,
+        )
 
     opens-node : n < P.sink → Opens n (future_with P s0 f n) (whole v (m v.first) (m v.second))
     opens-node l =
         elim (W.nodes n i).starts [
-            inl s ↦ opens-source s
+          | inl s ↦ opens-source s
           | inr s ↦ elim s [
-              inl fo ↦ elim (true_or_false v.streams) [ inl j ↦ opens-join (fo, j) | inr j ↦ opens-folds fo j ((W.nodes n i).gives l fo j) ]
+            | inl fo ↦ elim (true_or_false v.streams) [ inl j ↦ opens-join (fo, j) | inr j ↦ opens-folds fo j ((W.nodes n i).gives l fo j) ]
             | inr st ↦ opens-streams st
           ]
         ]
@@ -235,7 +233,7 @@ module _ {R : Type 0} (P : Plan R) (L : Lawful P) (W : WellFormed P) where
   AllDistinct-opening k n i l q ke =
       let p = folds_input P W n i q in
       let below : (e : ℕ) → IsInput P n e → Opens e (future P k s0 e) (meaning_within P k e) =
-        λ e p. opens k e (p.node, (let z = p.before in let y = i.1 in omega arith)) (let z = p.before in let y = i.1 in omega arith) (let z = p.before in omega arith) in
+      λ e p. opens k e (p.node, (let z = p.before in let y = i.1 in omega arith)) (let z = p.before in let y = i.1 in omega arith) (let z = p.before in omega arith) in
       subst IsDistinct (sym (folds-all (future P k s0) (meaning_within P k) n i below)) ((below (folds_from P n) p).1 ke)
 
   sink_whole : meaning_within P (suc P.sink) P.sink ≡ meaning_within P P.sink (P.node P.sink).first
@@ -252,11 +250,11 @@ module _ {R : Type 0} (P : Plan R) (L : Lawful P) (W : WellFormed P) where
       let e : ℕ = folds_from P P.sink in
       let p = folds_input P W P.sink i W.sink.folds in
       let below : (d : ℕ) → IsInput P P.sink d → Opens d (future P P.sink s0 d) (meaning_within P P.sink d) =
-        λ d q. opens P.sink d (q.node, (let z = q.before in omega arith)) q.before (let z = q.before in omega arith) in
+      λ d q. opens P.sink d (q.node, (let z = q.before in omega arith)) q.before (let z = q.before in omega arith) in
       let x = below e p in
       let a : answer P s0 ≡ gathered (future P P.sink s0 e) =
-        ap (λ q. base_by q (view P s0 P.sink) (coming P s0 (future P P.sink s0) P.sink)) W.sink.folds
-        ∙ ap (gathered {R = R}) (folds-all (future P P.sink s0) (meaning_within P P.sink) P.sink i below) in
+      ap (λ q. base_by q (view P s0 P.sink) (coming P s0 (future P P.sink s0) P.sink)) W.sink.folds
+      ∙ ap (gathered {R = R}) (folds-all (future P P.sink s0) (meaning_within P P.sink) P.sink i below) in
       let ee : e ≡ (P.node P.sink).first = ap (λ c. cond c (P.node P.sink).second (P.node P.sink).first) W.sink.only_folds.0 in
       let b : meaning P P.sink ≡ meaning_within P P.sink e = meaning-more P.sink P.sink i (omega arith) ∙ sink_whole ∙ ap (meaning_within P P.sink) (sym ee) in
       SameRows-trans (fold_kept P L W P.sink) _ _ _ (SameRows-equal _ _ _ a) (SameRows-trans (fold_kept P L W P.sink) _ _ _ x.0 (SameRows-equal _ _ _ (sym b)))

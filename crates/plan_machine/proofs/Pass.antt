@@ -1,23 +1,22 @@
 -- A node whose own state stays gives the same, where the same comes to it.
-use Rattle.std.proofs.Common.{◌≡◌, ℕ, zero, suc, ◌+◌, ◌<◌, ◌≤◌, ◌≢◌, ◌⊎◌, inl, inr, Bool, true, false, cond, List, [], ◌∷◌, ◌++◌, length, take, drop, map, Option, Some, None, refl, sym, ap, subst, arith, ◌∙◌}
+use Rattle.std.proofs.Common.{◌≡◌, ℕ, ◌≤◌, ◌⊎◌, inl, inr, Bool, true, false, cond, List, [], ◌∷◌, ◌++◌, drop, map, refl, sym, ap, subst, arith, ◌∙◌}
 use Rattle.plan_machine.specs.declared.entry.Phase.{Phase}
 use Rattle.plan_machine.specs.declared.entry.Phase.TheVariants.{Emitting, Folding, Streaming, Tailing, Sealed, Done}
 use Rattle.plan_machine.specs.Lists.{weigh}
-use Rattle.plan_machine.specs.Batch.{Batch, rows_of, gathered, marked, parts, piece}
-use Rattle.plan_machine.specs.Plan.{Plan, Node, IsNode, Folds, IsJoin, OnlyStreams, folds_from, streams_from}
+use Rattle.plan_machine.specs.Batch.{Batch, rows_of, gathered, marked}
+use Rattle.plan_machine.specs.Plan.{Plan, Node, IsNode, Folds, IsJoin, folds_from, streams_from}
 use Rattle.plan_machine.specs.Meaning.{SameRows, SameSet}
-use Rattle.plan_machine.specs.WellFormed.{Equality, Streams, Lawful, LawfulNode, WellFormed, IsPlaced}
+use Rattle.plan_machine.specs.WellFormed.{Streams, Lawful, WellFormed}
 use Rattle.plan_machine.proofs.Weigh.{weigh-append, weigh-map, weigh-same}
 use Rattle.plan_machine.proofs.Same.{IsTest, Same, IsDistinct, SameRows-refl, SameSet-refl, SameSet-weigh, Same-refl, Same-rows, gathered-same}
-use Rattle.plan_machine.proofs.Pieces.{pieces, pieces_from, pieces-same, map-same}
-use Rattle.plan_machine.proofs.Value.{whole_of, remains_of, View, Coming, all_folded, all_streamed, base_by, tails_by, joined_by, streamed_by, future_by}
+use Rattle.plan_machine.proofs.Pieces.{pieces-same, map-same}
+use Rattle.plan_machine.proofs.Value.{whole_of, remains_of, View, Coming, all_folded, all_streamed, base_by, tails_by, streamed_by, future_by}
 
 pub true_or_false : (b : Bool) → (b ≡ true) ⊎ (b ≡ false)
 true_or_false true = inl refl
 true_or_false false = inr refl
 
 module _ {R : Type 0} where
-
   pub Same-append : (kept : Bool) (a a' b b' : List (Batch R)) → Same kept a a' → Same kept b b' → Same kept (a ++ b) (a' ++ b')
   Same-append kept a a' b b' s t H q =
       let x = weigh-append H a b in
@@ -48,12 +47,11 @@ module _ {R : Type 0} where
   pub tails-same : (v : Node R) (batch : ℕ) (b c ys zs : List R) → 1 ≤ batch → (v.tails ≡ true → SameRows v.kept (v.rest b ys) (v.rest c zs)) → Same v.kept (tails_by v batch b ys) (tails_by v batch c zs)
   tails-same v batch b c ys zs l s =
       elim (true_or_false v.tails) [
-          inl e ↦ rw e (pieces-same v.kept batch (v.rest b ys) (v.rest c zs) l (s e))
+        | inl e ↦ rw e (pieces-same v.kept batch (v.rest b ys) (v.rest c zs) l (s e))
         | inr e ↦ rw e (Same-refl v.kept [])
       ]
 
 module _ {R : Type 0} (P : Plan R) (L : Lawful P) (W : WellFormed P) where
-
   abbrev pub fold_kept : ℕ → Bool
   fold_kept n = (P.node (folds_from P n)).kept
 
@@ -97,8 +95,8 @@ module _ {R : Type 0} (P : Plan R) (L : Lawful P) (W : WellFormed P) where
       let g : SameRows (fold_kept n) b c = gathered-same L.equality (fold_kept n) (all_folded V C) (all_folded V' C') s d in
       cond-same (P.node n).kept (P.node n).streams _ _ _ _
       (λ j. Same-append (P.node n).kept _ _ _ _
-        (Same-trans (P.node n).kept _ _ _ (map-base n i (f, j) b c g (all_streamed C)) (map-whole n i (inr (f, j)) c (all_streamed C) (all_streamed C') (st (inr (f, j)))))
-        (tails-same (P.node n) P.batch b c _ _ W.batch (λ t. (L.nodes n i).rest_same f t b c _ _ g (SameSet-weigh _ _ (Same-rows (stream_kept n) (all_streamed C) (all_streamed C') (st (inr (f, j))))))))
+      (Same-trans (P.node n).kept _ _ _ (map-base n i (f, j) b c g (all_streamed C)) (map-whole n i (inr (f, j)) c (all_streamed C) (all_streamed C') (st (inr (f, j)))))
+      (tails-same (P.node n) P.batch b c _ _ W.batch (λ t. (L.nodes n i).rest_same f t b c _ _ g (SameSet-weigh _ _ (Same-rows (stream_kept n) (all_streamed C) (all_streamed C') (st (inr (f, j))))))))
       (λ j. tails-same (P.node n) P.batch b c _ _ W.batch (λ t. (L.nodes n i).rest_same f t b c _ _ g (subst (λ (x : List (Batch R)). SameSet (rows_of V.streamed) (rows_of x)) e (SameSet-refl (rows_of V.streamed)))))
 
   -- only a join tails after it streamed
@@ -110,7 +108,6 @@ module _ {R : Type 0} (P : Plan R) (L : Lawful P) (W : WellFormed P) where
   tails-set n i st b ys zs e = tails-same (P.node n) P.batch b b ys zs W.batch (λ t. (L.nodes n i).rest_same (no_tails n i st t).0 t b b ys zs (SameRows-refl (fold_kept n) b) e)
 
   module _ (n : ℕ) (i : IsNode P n) (V : View R) (C C' : Coming R) where
-
     all_streamed-same : (q : Phase) → Arrives n q V C C' → Streams (P.node n) → Same (stream_kept n) (all_streamed C) (all_streamed C')
     all_streamed-same q A st H t =
         let a = weigh-append H C.streamed_waiting C.streamed_later in

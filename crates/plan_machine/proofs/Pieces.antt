@@ -1,20 +1,19 @@
 -- A list of rows that is cut into batches, and batches whose rows a node turns into others.
-use Rattle.std.proofs.Common.{◌≡◌, ℕ, zero, suc, ◌+◌, ◌-◌, ◌*◌, ◌/◌, ◌<◌, ◌≤◌, ◌≢◌, ◌⊎◌, inl, inr, Bool, true, false, cond, eqb, ltb, List, [], ◌∷◌, ◌++◌, length, take, drop, map, Option, Some, None, refl, sym, ap, arith, ◌∙◌, append_assoc, append-nil, take-append-drop, drop_of_length-le}
+use Rattle.std.proofs.Common.{◌≡◌, ℕ, zero, suc, ◌+◌, ◌-◌, ◌*◌, ◌/◌, ◌<◌, ◌≤◌, inl, inr, Bool, true, false, cond, List, [], ◌∷◌, ◌++◌, length, take, drop, map, refl, sym, ap, arith, ◌∙◌, take-append-drop, drop_of_length-le}
 use Rattle.std.proofs.lemmas.List.{drop-drop}
 use Rattle.std.proofs.lemmas.Bool.Decides.{eqb_tells, leb_tells, nat_tests}
 use Rattle.plan_machine.specs.Lists.{weigh}
-use Rattle.plan_machine.specs.Batch.{Batch, key, rows_of, gathered, has_key, rows_at, count_at, sort_batches, insert_batch, marked, parts, piece}
+use Rattle.plan_machine.specs.Batch.{Batch, key, rows_of, gathered, has_key, count_at, sort_batches, insert_batch, parts, piece}
 use Rattle.plan_machine.specs.Meaning.{SameRows}
-use Rattle.plan_machine.proofs.Weigh.{weigh-append, weigh-map, weigh-same, weigh-rows, weigh-take-drop}
+use Rattle.plan_machine.proofs.Weigh.{weigh-append, weigh-map, weigh-same, weigh-rows}
 use Rattle.plan_machine.proofs.Sorting.{under, IsOrdered, weigh-gathered}
-use Rattle.plan_machine.proofs.Same.{IsTest, Same, IsDistinct, SameRows-equal, rows_test}
+use Rattle.plan_machine.proofs.Same.{IsTest, Same, IsDistinct}
 
 -- so many batches hold all rows
 covered : (b n : ℕ) → 1 ≤ b → n ≤ ((n + (b - 1)) / b) * b
 covered b n l = omega arith
 
 module _ {R : Type 0} where
-
   -- c batches of the rows, from batch k on
   abbrev pub pieces : Bool → ℕ → List R → ℕ → ℕ → List (Batch R)
   pieces kept b rows k zero = []
@@ -65,7 +64,7 @@ module _ {R : Type 0} where
   insert-first x [] z = refl
   insert-first x (y ∷ ys) z =
       elim (leb_tells (suc (key y)) (key x)) [
-          inl e ↦ let u : under (key x) y ≡ 1 = rw e.0 refl in absurd (omega arith)
+        | inl e ↦ let u : under (key x) y ≡ 1 = rw e.0 refl in absurd (omega arith)
         | inr e ↦ rw e.0 refl
       ]
 
@@ -90,7 +89,7 @@ module _ {R : Type 0} where
   pieces-distinct b rows k (suc c) i =
       let r = pieces-distinct b rows (k + 1) c i in
       elim (eqb_tells k i) [
-          inl e ↦ let z = none_at b rows (k + 1) c i (omega arith) in let u : cond {A = ℕ} (has_key i (piece true b rows k)) 1 0 ≡ 1 = rw e.0 refl in omega arith
+        | inl e ↦ let z = none_at b rows (k + 1) c i (omega arith) in let u : cond {A = ℕ} (has_key i (piece true b rows k)) 1 0 ≡ 1 = rw e.0 refl in omega arith
         | inr e ↦ let u : cond {A = ℕ} (has_key i (piece true b rows k)) 1 0 ≡ 0 = rw e.0 refl in omega arith
       ]
 
@@ -110,7 +109,7 @@ module _ {R : Type 0} where
   insert-map g e x (y ∷ ys) =
       let r = insert-map g e x ys in
       elim (leb_tells (suc (key y)) (key x)) [
-          inl q ↦ rw (e x, e y) (rw q.0 (ap (λ (t : List (Batch R)). g y ∷ t) r))
+        | inl q ↦ rw (e x, e y) (rw q.0 (ap (λ (t : List (Batch R)). g y ∷ t) r))
         | inr q ↦ rw (e x, e y) (rw q.0 refl)
       ]
 

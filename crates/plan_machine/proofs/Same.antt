@@ -1,10 +1,9 @@
 -- When two lists of batches are the same to all that may be asked of them.
-use Rattle.std.proofs.Common.{◌≡◌, ℕ, zero, suc, ◌+◌, ◌<◌, ◌≤◌, ◌≢◌, ◌⊎◌, inl, inr, Bool, true, false, cond, ◌&&◌, eqb, ltb, List, [], ◌∷◌, ◌++◌, length, refl, sym, ap, ap₂, arith, ◌∙◌, append_assoc, append-nil}
-use Rattle.std.proofs.lemmas.Bool.Decides.{eqb_tells, leb_tells, nat_tests}
+use Rattle.std.proofs.Common.{◌≡◌, ℕ, zero, suc, ◌≤◌, ◌⊎◌, inl, inr, Bool, true, false, cond, ◌&&◌, List, [], ◌∷◌, refl, sym, ap, ap₂, arith, ◌∙◌, append-nil}
+use Rattle.std.proofs.lemmas.Bool.Decides.{eqb_tells}
 use Rattle.plan_machine.specs.Lists.{weigh}
 use Rattle.plan_machine.specs.Batch.{Batch, key, rows_of, gathered, has_key, rows_at, count_at}
 use Rattle.plan_machine.specs.Meaning.{SameRows, SameSet}
-use Rattle.plan_machine.specs.Enabled.{front}
 use Rattle.plan_machine.specs.WellFormed.{Equality}
 use Rattle.plan_machine.proofs.Weigh.{weigh-rows}
 use Rattle.plan_machine.proofs.Sorting.{gathered-all, front-like, weigh-gathered}
@@ -22,7 +21,6 @@ abbrev pub IsDistinct : {R : Type 0} → List (Batch R) → Type 0
 IsDistinct xs = (i : ℕ) → count_at i xs ≤ 1
 
 module _ {R : Type 0} where
-
   pub SameRows-refl : (kept : Bool) (xs : List R) → SameRows kept xs xs
   SameRows-refl true xs = refl
   SameRows-refl false xs = λ h. refl
@@ -86,7 +84,6 @@ module _ {R : Type 0} where
   IsDistinct-same xs ys s d i = let e = s (λ b. cond (has_key i b) 1 0) tt in let q = d i in omega arith
 
 module _ {R : Type 0} (E : Equality R) where
-
   abbrev eq_rows : List R → List R → Bool
   eq_rows [] [] = true
   eq_rows [] (y ∷ ys) = false
@@ -118,7 +115,7 @@ module _ {R : Type 0} (E : Equality R) where
   none_there i [] z = refl
   none_there i (x ∷ xs) z =
       elim (eqb_tells (key x) i) [
-          inl e ↦ let u : cond {A = ℕ} (has_key i x) 1 0 ≡ 1 = rw e.0 refl in absurd (omega arith)
+        | inl e ↦ let u : cond {A = ℕ} (has_key i x) 1 0 ≡ 1 = rw e.0 refl in absurd (omega arith)
         | inr e ↦ rw e.0 (none_there i xs (omega arith))
       ]
 
@@ -131,7 +128,7 @@ module _ {R : Type 0} (E : Equality R) where
   is_batch-less i r (x ∷ xs) =
       let m = is_batch-less i r xs in
       elim (eqb_tells (key x) i) [
-          inl e ↦ let a = at_most_one (eq_rows x.rows r) in
+        | inl e ↦ let a = at_most_one (eq_rows x.rows r) in
             let u : is_batch i r x ≤ 1 = rw e.0 a in
             let w : cond {A = ℕ} (has_key i x) 1 0 ≡ 1 = rw e.0 refl in omega arith
         | inr e ↦ let u : is_batch i r x ≡ 0 = rw e.0 refl in omega arith
@@ -146,7 +143,7 @@ module _ {R : Type 0} (E : Equality R) where
   found i r (y ∷ ys) c l =
       let m = is_batch-less i r ys in
       elim (eqb_tells (key y) i) [
-          inl e ↦
+        | inl e ↦
             let w : cond {A = ℕ} (has_key i y) 1 0 ≡ 1 = rw e.0 refl in
             let z : count_at i ys ≡ 0 = omega arith in
             let u : is_batch i r y ≡ cond {A = ℕ} (eq_rows y.rows r) 1 0 = rw e.0 refl in
@@ -163,7 +160,7 @@ module _ {R : Type 0} (E : Equality R) where
   there i [] c = absurd (omega arith)
   there i (x ∷ xs) c =
       elim (eqb_tells (key x) i) [
-          inl e ↦
+        | inl e ↦
             let w : cond {A = ℕ} (has_key i x) 1 0 ≡ 1 = rw e.0 refl in
             let z : count_at i xs ≡ 0 = omega arith in
             let n : rows_at i xs ≡ [] = none_there i xs z in
@@ -182,7 +179,7 @@ module _ {R : Type 0} (E : Equality R) where
   rows_at-same i xs ys s l =
       let c = s (λ b. cond (has_key i b) 1 0) tt in
       elim (zero_or_one (count_at i xs) l) [
-          inl z ↦ none_there i xs z ∙ sym (none_there i ys (omega arith))
+        | inl z ↦ none_there i xs z ∙ sym (none_there i ys (omega arith))
         | inr o ↦
             let t = there i xs o in
             let q = s (is_batch i (rows_at i xs)) tt in

@@ -1,19 +1,18 @@
 -- Batches put back into index order, as the batches of index 0, then those of index 1, and so on.
-use Rattle.std.proofs.Common.{◌≡◌, ℕ, zero, suc, ◌+◌, ◌<◌, ◌≤◌, ◌≢◌, ◌⊎◌, inl, inr, Bool, true, false, cond, eqb, ltb, List, [], ◌∷◌, ◌++◌, length, refl, sym, ap, arith, ◌∙◌, append_assoc, append-nil}
+use Rattle.std.proofs.Common.{◌≡◌, ℕ, zero, suc, ◌+◌, ◌<◌, ◌≤◌, inl, inr, true, false, cond, ltb, List, [], ◌∷◌, ◌++◌, refl, sym, ap, arith, ◌∙◌, append_assoc, append-nil}
 use Rattle.std.proofs.lemmas.Bool.Decides.{eqb_tells, leb_tells, nat_tests}
 use Rattle.plan_machine.specs.Lists.{weigh}
-use Rattle.plan_machine.specs.Batch.{Batch, key, insert_batch, sort_batches, rows_of, gathered, has_key, rows_at, count_at}
+use Rattle.plan_machine.specs.Batch.{Batch, key, insert_batch, sort_batches, rows_of, gathered, has_key, rows_at}
 use Rattle.plan_machine.specs.Enabled.{front}
 use Rattle.plan_machine.proofs.Weigh.{weigh-append}
 
 module _ {R : Type 0} where
-
   pub weigh-insert : (h : Batch R → ℕ) (x : Batch R) (ys : List (Batch R)) → weigh h (insert_batch x ys) ≡ h x + weigh h ys
   weigh-insert h x [] = refl
   weigh-insert h x (y ∷ ys) =
       let r = weigh-insert h x ys in
       elim (ltb (key y) (key x)) as (λ b. weigh h (cond b (y ∷ insert_batch x ys) (x ∷ y ∷ ys)) ≡ h x + (h y + weigh h ys)) [
-          true ↦ omega arith
+        | true ↦ omega arith
         | false ↦ refl
       ]
 
@@ -42,7 +41,7 @@ module _ {R : Type 0} where
       let r = insert_ordered x ys o.1 in
       let w = weigh-insert (under (key y)) x ys in
       elim (leb_tells (suc (key y)) (key x)) [
-          inl e ↦
+        | inl e ↦
             let z : under (key y) x ≡ 0 = grind (arith, nat_tests) in
             let g : weigh (under (key y)) (insert_batch x ys) ≡ 0 = omega (arith, o.0) in
             rw e.0 (g, r)
@@ -62,9 +61,9 @@ module _ {R : Type 0} where
   rows_at-insert i x (y ∷ ys) =
       let r = rows_at-insert i x ys in
       elim (leb_tells (suc (key y)) (key x)) [
-          inl e ↦
+        | inl e ↦
             rw e.0 (rw r (elim (eqb_tells (key y) i) [
-                inl p ↦ elim (eqb_tells (key x) i) [ inl q ↦ absurd (omega arith) | inr q ↦ rw (p.0, q.0) refl ]
+              | inl p ↦ elim (eqb_tells (key x) i) [ inl q ↦ absurd (omega arith) | inr q ↦ rw (p.0, q.0) refl ]
               | inr p ↦ rw p.0 refl
             ]))
         | inr e ↦ rw e.0 refl
@@ -84,7 +83,7 @@ module _ {R : Type 0} where
   rows_at-none i k [] l z = refl
   rows_at-none i k (x ∷ xs) l z =
       elim (eqb_tells (key x) i) [
-          inl e ↦ let u : under k x ≡ 1 = grind (arith, nat_tests) in absurd (omega arith)
+        | inl e ↦ let u : under k x ≡ 1 = grind (arith, nat_tests) in absurd (omega arith)
         | inr e ↦ rw e.0 (rows_at-none i k xs l (omega arith))
       ]
 
@@ -93,13 +92,13 @@ module _ {R : Type 0} where
   keep-next k (x ∷ xs) o =
       let r = keep-next k xs o.1 in
       elim (eqb_tells (key x) k) [
-          inl e ↦
+        | inl e ↦
             let a : ltb (key x) k ≡ false = grind (arith, nat_tests) in
             let b : ltb (key x) (suc k) ≡ true = grind (arith, nat_tests) in
             rw (a, b, e.0) (rw r (sym (append_assoc x.rows (rows_at k xs) (rows_of (keep (suc k) xs)))))
         | inr e ↦
             elim (leb_tells (suc (key x)) k) [
-                inl q ↦
+              | inl q ↦
                   let b : ltb (key x) (suc k) ≡ true = grind (arith, nat_tests) in
                   rw (q.0, b, e.0) r
               | inr q ↦

@@ -1,20 +1,20 @@
 -- What each claim and each delivery spends.
-use Rattle.std.proofs.Common.{◌≡◌, ℕ, zero, suc, ◌+◌, ◌-◌, ◌*◌, ◌<◌, ◌≤◌, ◌≢◌, ◌⊎◌, inl, inr, Bool, true, false, cond, ◌&&◌, ltb, List, [], ◌∷◌, ◌++◌, length, take, drop, map, Option, Some, None, refl, sym, ap, subst, arith, ◌∙◌, append-nil, length-append, length-take}
-use Rattle.std.proofs.lemmas.Bool.Decides.{leb_tells, nat_tests}
+use Rattle.std.proofs.Common.{◌≡◌, ℕ, zero, suc, ◌+◌, ◌-◌, ◌*◌, ◌<◌, ◌≤◌, inl, inr, Bool, true, false, cond, ◌&&◌, ltb, List, [], ◌∷◌, ◌++◌, length, take, Option, Some, None, refl, sym, ap, arith, ◌∙◌, length-append, length-take}
+use Rattle.std.proofs.lemmas.Bool.Decides.{leb_tells}
 use Rattle.plan_machine.specs.declared.entry.Phase.{Phase}
 use Rattle.plan_machine.specs.declared.entry.Phase.TheVariants.{Emitting, Folding, Streaming, Tailing, Sealed, Done}
 use Rattle.plan_machine.specs.declared.entry.Job.{Job}
 use Rattle.plan_machine.specs.declared.entry.Job.TheVariants.{Emit, Fold, Seal, Stream, Close, Tail}
 use Rattle.plan_machine.specs.Phases.{phase_after_seal_of}
 use Rattle.plan_machine.specs.Lists.{upd, at_or, without, gather, sum_to, weigh}
-use Rattle.plan_machine.specs.Batch.{Batch, blank, parts, rows_of}
-use Rattle.plan_machine.specs.Plan.{Plan, Node, IsNode, IsEdge, IsWorker, Folds, IsJoin, folds_from, streams_from}
+use Rattle.plan_machine.specs.Batch.{Batch, blank, parts}
+use Rattle.plan_machine.specs.Plan.{Plan, Node, IsNode, IsEdge, IsWorker, IsJoin, folds_from, streams_from}
 use Rattle.plan_machine.specs.State.{State, Task, tail_rows}
-use Rattle.plan_machine.specs.Enabled.{Ready, CanDo, CanPause, CanResume, MayFinish}
+use Rattle.plan_machine.specs.Enabled.{Ready, CanDo, CanPause, CanResume}
 use Rattle.plan_machine.specs.After.{claimed, landed, task_of, sent, back, left_of}
-use Rattle.plan_machine.specs.WellFormed.{Streams, Lawful, WellFormed, IsInput, IsPlaced}
+use Rattle.plan_machine.specs.WellFormed.{Streams, Lawful, WellFormed}
 use Rattle.plan_machine.specs.Bound.{gives}
-use Rattle.plan_machine.proofs.Weigh.{weigh-append, weigh-one, weigh-without, same_or, upd-here, upd-else}
+use Rattle.plan_machine.proofs.Weigh.{weigh-one, weigh-without, same_or, upd-here, upd-else}
 use Rattle.plan_machine.proofs.Pass.{true_or_false}
 use Rattle.plan_machine.proofs.Turn.{folds_input, streams_input}
 use Rattle.plan_machine.proofs.Flight.{ends, flying, flying-more, flying-less, flying-gone}
@@ -47,14 +47,13 @@ cond_few true x = omega arith
 cond_few false x = omega arith
 
 module _ {R : Type 0} (P : Plan R) (L : Lawful P) (W : WellFormed P) where
-
   edge-less : (p : Bool) (n : ℕ) → edge_by P p n + 2 ≤ edge_by P p (n + 1)
   edge-less true n = omega arith
   edge-less false n = elim (leb_tells (suc P.pause) n) [
-      inl a ↦ elim (leb_tells (suc P.pause) (n + 1)) [
-          inl b ↦ let x = ap (λ c. cond {A = ℕ} c 2 0) a.0 in let y = ap (λ c. cond {A = ℕ} c 2 0) b.0 in omega arith
-        | inr b ↦ absurd (let x = a.1 in let y = b.1 in omega arith)
-      ]
+    | inl a ↦ elim (leb_tells (suc P.pause) (n + 1)) [
+      | inl b ↦ let x = ap (λ c. cond {A = ℕ} c 2 0) a.0 in let y = ap (λ c. cond {A = ℕ} c 2 0) b.0 in omega arith
+      | inr b ↦ absurd (let x = a.1 in let y = b.1 in omega arith)
+    ]
     | inr a ↦ let x = ap (λ c. cond {A = ℕ} c 2 0) a.0 in omega arith
   ]
 
@@ -77,11 +76,10 @@ module _ {R : Type 0} (P : Plan R) (L : Lawful P) (W : WellFormed P) where
       let a : come_at P s' n sz g' ≡ come_by (P.node n) P.batch (s.phase n) (s.next n) (tail_rows P s n) sz (length (s'.waiting (streams_from P n)) + g') = cc in
       let gs : Streams (P.node n) → length (s'.waiting (streams_from P n)) + g' ≤ length (s.waiting (streams_from P n)) + g = λ st. let y = l st in let z = w st in omega arith in
       let m = come-less (P.node n) P.batch (s.phase n) (s.next n) (tail_rows P s n) sz (length (s.waiting (streams_from P n)) + g) (length (s'.waiting (streams_from P n)) + g')
-        (λ q j. gs (inr (F.started.folding n i q, j))) (λ q. gs (F.started.streaming n i q)) in
+      (λ q j. gs (inr (F.started.folding n i q, j))) (λ q. gs (F.started.streaming n i q)) in
       omega arith
 
   module _ (s : State R) (F : Fit P L W s) (w n : ℕ) (Y : Ready P s w n) where
-
     tasks-more : (t : Task R) → tasks_cost P (upd s.tasks w (Some t)) ≡ tasks_cost P s.tasks + (8 * gives t.job + 1)
     tasks-more t =
         let a = sum-upd P.workers w (λ _ o. task_cost P o) s.tasks (Some t) Y.worker.0 Y.worker.1 in
@@ -108,23 +106,23 @@ module _ {R : Type 0} (P : Plan R) (L : Lawful P) (W : WellFormed P) where
         omega arith
 
     count-spends : (k : ℕ) (rows : List R) (t : Task R) (s' : State R) → t.node ≡ n → gives t.job ≡ 1 → ends t.job ≡ 0 → s.next n ≡ k → k < parts P.batch rows
-      → s'.tasks ≡ upd s.tasks w (Some t) → s'.phase ≡ s.phase → s'.paused ≡ s.paused → s'.waiting ≡ s.waiting → s'.next n ≡ k + 1
-      → ((sz g : ℕ) → come_at P s n sz g ≡ parts P.batch rows - s.next n) → ((sz g : ℕ) → come_at P s' n sz g ≡ parts P.batch rows - s'.next n) → Spends P L W s s' n []
+        → s'.tasks ≡ upd s.tasks w (Some t) → s'.phase ≡ s.phase → s'.paused ≡ s.paused → s'.waiting ≡ s.waiting → s'.next n ≡ k + 1
+        → ((sz g : ℕ) → come_at P s n sz g ≡ parts P.batch rows - s.next n) → ((sz g : ℕ) → come_at P s' n sz g ≡ parts P.batch rows - s'.next n) → Spends P L W s s' n []
     count-spends k rows t s' e g1 e0 nx l ts ph pa wa nx' c c' =
         record {
           more = 1;
           come = λ sz sz' g g' z lg tf. let a = c sz g in let b = c' sz' g' in omega arith;
           goes =
-            let a = outs-more t e in
-            let b = ap (λ (x : ℕ → Option (Task R)). weigh (λ t. gives t.job) (flying P x n)) ts in
-            omega arith;
+              let a = outs-more t e in
+              let b = ap (λ (x : ℕ → Option (Task R)). weigh (λ t. gives t.job) (flying P x n)) ts in
+              omega arith;
           pays =
-            let a = tasks-more t in
-            let a' = ap (tasks_cost P) ts in
-            let b = stage-more t e e0 in
-            let b' : stage_of P s' n ≡ stage_cost (weigh (λ t. ends t.job) (flying P (upd s.tasks w (Some t)) n)) (s.phase n) = cc in
-            let d : edges_cost P s' ≡ edges_cost P s = edges-eq s' s.waiting s.paused wa pa in
-            omega arith;
+              let a = tasks-more t in
+              let a' = ap (tasks_cost P) ts in
+              let b = stage-more t e e0 in
+              let b' : stage_of P s' n ≡ stage_cost (weigh (λ t. ends t.job) (flying P (upd s.tasks w (Some t)) n)) (s.phase n) = cc in
+              let d : edges_cost P s' ≡ edges_cost P s = edges-eq s' s.waiting s.paused wa pa in
+              omega arith;
         }
 
     emit-spends : (k : ℕ) → CanDo P s n Emit k → Spends P L W s (claimed P s w n Emit k) n []
@@ -143,7 +141,7 @@ module _ {R : Type 0} (P : Plan R) (L : Lawful P) (W : WellFormed P) where
     waiting-less : (e p : ℕ) → p < length (s.waiting e) → (j : ℕ) → length (upd s.waiting e (without p (s.waiting e)) j) ≤ length (s.waiting j)
     waiting-less e p l j =
         elim (same_or j e) [
-            inl q ↦
+          | inl q ↦
               let a = ap length (ap (upd s.waiting e (without p (s.waiting e))) q ∙ upd-here s.waiting e (without p (s.waiting e))) in
               let b = length-without blank p (s.waiting e) l in
               let c = ap (λ k. length (s.waiting k)) q in
@@ -160,15 +158,15 @@ module _ {R : Type 0} (P : Plan R) (L : Lawful P) (W : WellFormed P) where
         record {
           more = 0;
           come = λ sz sz' g g' z lg tf.
-            let a = come-kept s s' F n Y.node refl refl refl sz' g g' lg (λ st. waiting-less e p c.1 (streams_from P n)) in
-            let q : sz ≡ sz' = omega arith in let b = ap (λ x. come_at P s n x g) q in
-            omega arith;
+              let a = come-kept s s' F n Y.node refl refl refl sz' g g' lg (λ st. waiting-less e p c.1 (streams_from P n)) in
+              let q : sz ≡ sz' = omega arith in let b = ap (λ x. come_at P s n x g) q in
+              omega arith;
           goes = let a = outs-more t refl in omega arith;
           pays =
-            let a = tasks-more t in
-            let b = stage-more t refl refl in
-            let d = edge-taken e p ip.node (let x = ip.before in let y = Y.node.1 in omega arith) c.1 in
-            omega arith;
+              let a = tasks-more t in
+              let b = stage-more t refl refl in
+              let d = edge-taken e p ip.node (let x = ip.before in let y = Y.node.1 in omega arith) c.1 in
+              omega arith;
         }
 
     idle-endings : flying P s.tasks n ≡ [] → endings P s n ≡ 0
@@ -181,17 +179,17 @@ module _ {R : Type 0} (P : Plan R) (L : Lawful P) (W : WellFormed P) where
         record {
           more = 0;
           come = λ sz sz' g g' z lg tf.
-            let a = come-kept s s' F n Y.node refl refl refl sz' g g' lg (λ st. omega arith) in
-            let q : sz ≡ sz' = omega arith in let b = ap (λ x. come_at P s n x g) q in
-            omega arith;
+              let a = come-kept s s' F n Y.node refl refl refl sz' g g' lg (λ st. omega arith) in
+              let q : sz ≡ sz' = omega arith in let b = ap (λ x. come_at P s n x g) q in
+              omega arith;
           goes = let a = outs-more t refl in omega arith;
           pays =
-            let a = tasks-more t in
-            let e0 = idle-endings c.1 in
-            let e1 : endings P s' n ≡ 1 = (let x = endings-more t refl in omega arith) in
-            let b : stage_of P s' n ≡ 3 = ap (λ q. stage_cost (endings P s' n) q) c.0 ∙ ap (λ q. stage_cost q Folding) e1 in
-            let b' : stage_of P s n ≡ 5 = ap (λ q. stage_cost (endings P s n) q) c.0 ∙ ap (λ q. stage_cost q Folding) e0 in
-            omega arith;
+              let a = tasks-more t in
+              let e0 = idle-endings c.1 in
+              let e1 : endings P s' n ≡ 1 = (let x = endings-more t refl in omega arith) in
+              let b : stage_of P s' n ≡ 3 = ap (λ q. stage_cost (endings P s' n) q) c.0 ∙ ap (λ q. stage_cost q Folding) e1 in
+              let b' : stage_of P s n ≡ 5 = ap (λ q. stage_cost (endings P s n) q) c.0 ∙ ap (λ q. stage_cost q Folding) e0 in
+              omega arith;
         }
 
     close-spends : (k : ℕ) → CanDo P s n Close k → Spends P L W s (claimed P s w n Close k) n []
@@ -201,17 +199,17 @@ module _ {R : Type 0} (P : Plan R) (L : Lawful P) (W : WellFormed P) where
         record {
           more = 0;
           come = λ sz sz' g g' z lg tf.
-            let a = come-kept s s' F n Y.node refl refl refl sz' g g' lg (λ st. omega arith) in
-            let q : sz ≡ sz' = omega arith in let b = ap (λ x. come_at P s n x g) q in
-            omega arith;
+              let a = come-kept s s' F n Y.node refl refl refl sz' g g' lg (λ st. omega arith) in
+              let q : sz ≡ sz' = omega arith in let b = ap (λ x. come_at P s n x g) q in
+              omega arith;
           goes = let a = outs-more t refl in omega arith;
           pays =
-            let a = tasks-more t in
-            let e0 = idle-endings c.1 in
-            let e1 : endings P s' n ≡ 1 = (let x = endings-more t refl in omega arith) in
-            let b : stage_of P s' n ≡ 1 = ap (λ q. stage_cost (endings P s' n) q) c.0 ∙ ap (λ q. stage_cost q Streaming) e1 in
-            let b' : stage_of P s n ≡ 3 = ap (λ q. stage_cost (endings P s n) q) c.0 ∙ ap (λ q. stage_cost q Streaming) e0 in
-            omega arith;
+              let a = tasks-more t in
+              let e0 = idle-endings c.1 in
+              let e1 : endings P s' n ≡ 1 = (let x = endings-more t refl in omega arith) in
+              let b : stage_of P s' n ≡ 1 = ap (λ q. stage_cost (endings P s' n) q) c.0 ∙ ap (λ q. stage_cost q Streaming) e1 in
+              let b' : stage_of P s n ≡ 3 = ap (λ q. stage_cost (endings P s n) q) c.0 ∙ ap (λ q. stage_cost q Streaming) e0 in
+              omega arith;
         }
 
     stream-spends : (p : ℕ) → CanDo P s n Stream p → Spends P L W s (claimed P s w n Stream p) n []
@@ -224,19 +222,19 @@ module _ {R : Type 0} (P : Plan R) (L : Lawful P) (W : WellFormed P) where
         record {
           more = 1;
           come = λ sz sz' g g' z lg tf.
-            let a : come_at P s n sz g ≡ (length (s.waiting e) + g) + cond (P.node n).cuts sz 0 = ap (λ q. come_by (P.node n) P.batch q (s.next n) (tail_rows P s n) sz (length (s.waiting e) + g)) c.0 in
-            let a' : come_at P s' n sz' g' ≡ (length (s'.waiting e) + g') + cond (P.node n).cuts sz' 0 = ap (λ q. come_by (P.node n) P.batch q (s.next n) (tail_rows P s n) sz' (length (s'.waiting e) + g')) c.0 in
-            let q : sz ≡ sz' = omega arith in let b = ap (λ x. cond (P.node n).cuts x 0) q in
-            let d = lg st in
-            let f = length-without blank p (s.waiting e) c.1 in
-            let h = ap length (upd-here s.waiting e (without p (s.waiting e))) in
-            omega arith;
+              let a : come_at P s n sz g ≡ (length (s.waiting e) + g) + cond (P.node n).cuts sz 0 = ap (λ q. come_by (P.node n) P.batch q (s.next n) (tail_rows P s n) sz (length (s.waiting e) + g)) c.0 in
+              let a' : come_at P s' n sz' g' ≡ (length (s'.waiting e) + g') + cond (P.node n).cuts sz' 0 = ap (λ q. come_by (P.node n) P.batch q (s.next n) (tail_rows P s n) sz' (length (s'.waiting e) + g')) c.0 in
+              let q : sz ≡ sz' = omega arith in let b = ap (λ x. cond (P.node n).cuts x 0) q in
+              let d = lg st in
+              let f = length-without blank p (s.waiting e) c.1 in
+              let h = ap length (upd-here s.waiting e (without p (s.waiting e))) in
+              omega arith;
           goes = let a = outs-more t refl in omega arith;
           pays =
-            let a = tasks-more t in
-            let b = stage-more t refl refl in
-            let d = edge-taken e p ip.node (let x = ip.before in let y = Y.node.1 in omega arith) c.1 in
-            omega arith;
+              let a = tasks-more t in
+              let b = stage-more t refl refl in
+              let d = edge-taken e p ip.node (let x = ip.before in let y = Y.node.1 in omega arith) c.1 in
+              omega arith;
         }
 
     pub claim-spends : (job : Job) (k : ℕ) → CanDo P s n job k → Spends P L W s (claimed P s w n job k) n []
@@ -248,7 +246,6 @@ module _ {R : Type 0} (P : Plan R) (L : Lawful P) (W : WellFormed P) where
     claim-spends Tail k c = tail-spends k c
 
   module _ (s : State R) (F : Fit P L W s) (w : ℕ) (t : Task R) (iw : IsWorker P w) (busy : s.tasks w ≡ Some t) where
-
     abbrev a : ℕ
     a = t.node
 
@@ -279,13 +276,13 @@ module _ {R : Type 0} (P : Plan R) (L : Lawful P) (W : WellFormed P) where
         record {
           more = 0;
           come = λ sz sz' g g' z lg tf.
-            let x : come_at P s' a sz' g' ≡ 0 = ap (λ q. come_by (P.node a) P.batch q (s.next a) (tail_rows P s a) sz' (length (s.waiting (streams_from P a)) + g')) d in
-            omega arith;
+              let x : come_at P s' a sz' g' ≡ 0 = ap (λ q. come_by (P.node a) P.batch q (s.next a) (tail_rows P s a) sz' (length (s.waiting (streams_from P a)) + g')) d in
+              omega arith;
           goes = let x = outs-less in omega arith;
           pays =
-            let x = tasks-less in
-            let y : stage_of P s' a ≡ 0 = ap (λ q. stage_cost (endings P s' a) q) d in
-            omega arith;
+              let x = tasks-less in
+              let y : stage_of P s' a ≡ 0 = ap (λ q. stage_cost (endings P s' a) q) d in
+              omega arith;
         }
 
     -- a batch more on the node's own edge
@@ -297,36 +294,36 @@ module _ {R : Type 0} (P : Plan R) (L : Lawful P) (W : WellFormed P) where
         omega arith
 
     put-spends : (b : Batch R) (s' : State R) → gives t.job ≡ 1 → ends t.job ≡ 0 → s'.tasks ≡ done → s'.waiting ≡ upd s.waiting a (s.waiting a ++ b ∷ []) → s'.paused ≡ s.paused → s'.phase ≡ s.phase
-      → ((sz sz' g g' : ℕ) → come_at P s' a sz' g' ≡ come_at P s a sz g) → Spends P L W s s' a (b ∷ [])
+        → ((sz sz' g g' : ℕ) → come_at P s' a sz' g' ≡ come_at P s a sz g) → Spends P L W s s' a (b ∷ [])
     put-spends b s' g1 e0 ts wa pa ph c =
         record {
           more = 0;
           come = λ sz sz' g g' z lg tf. let x = c sz sz' g g' in omega arith;
           goes =
-            let x = outs-less in
-            let y = ap (λ (x : ℕ → Option (Task R)). weigh (λ t. gives t.job) (flying P x a)) ts in
-            omega arith;
+              let x = outs-less in
+              let y = ap (λ (x : ℕ → Option (Task R)). weigh (λ t. gives t.job) (flying P x a)) ts in
+              omega arith;
           pays =
-            let x = tasks-less in
-            let x' = ap (tasks_cost P) ts in
-            let y = stage-less e0 in
-            let y' : stage_of P s' a ≡ stage_cost (weigh (λ t. ends t.job) (flying P done a)) (s.phase a) = cc in
-            let z = edge-put b in
-            let z' : edges_cost P s' ≡ sum_to P.sink (λ j. edge_by P (s.paused j) (length (upd s.waiting a (s.waiting a ++ b ∷ []) j))) = edges-eq s' (upd s.waiting a (s.waiting a ++ b ∷ [])) s.paused wa pa in
-            omega arith;
+              let x = tasks-less in
+              let x' = ap (tasks_cost P) ts in
+              let y = stage-less e0 in
+              let y' : stage_of P s' a ≡ stage_cost (weigh (λ t. ends t.job) (flying P done a)) (s.phase a) = cc in
+              let z = edge-put b in
+              let z' : edges_cost P s' ≡ sum_to P.sink (λ j. edge_by P (s.paused j) (length (upd s.waiting a (s.waiting a ++ b ∷ []) j))) = edges-eq s' (upd s.waiting a (s.waiting a ++ b ∷ [])) s.paused wa pa in
+              omega arith;
         }
 
     emit-pays : t.job ≡ Emit → s.phase a ≡ Emitting → Spends P L W s (landed P s w t Emit) a (new_of P L W s F w t iw busy Emit)
     emit-pays jb p =
         put-spends _ (landed P s w t Emit) (ap gives jb) (ap ends jb) refl refl refl refl
         (λ sz sz' g g'. ap (λ q. come_by (P.node a) P.batch q (s.next a) (tail_rows P s a) sz' (length ((landed P s w t Emit).waiting (streams_from P a)) + g')) p
-          ∙ sym (ap (λ q. come_by (P.node a) P.batch q (s.next a) (tail_rows P s a) sz (length (s.waiting (streams_from P a)) + g)) p))
+        ∙ sym (ap (λ q. come_by (P.node a) P.batch q (s.next a) (tail_rows P s a) sz (length (s.waiting (streams_from P a)) + g)) p))
 
     tail-pays : t.job ≡ Tail → s.phase a ≡ Tailing → Spends P L W s (landed P s w t Tail) a (new_of P L W s F w t iw busy Tail)
     tail-pays jb p =
         put-spends _ (landed P s w t Tail) (ap gives jb) (ap ends jb) refl refl refl refl
         (λ sz sz' g g'. ap (λ q. come_by (P.node a) P.batch q (s.next a) (tail_rows P s a) sz' (length ((landed P s w t Tail).waiting (streams_from P a)) + g')) p
-          ∙ sym (ap (λ q. come_by (P.node a) P.batch q (s.next a) (tail_rows P s a) sz (length (s.waiting (streams_from P a)) + g)) p))
+        ∙ sym (ap (λ q. come_by (P.node a) P.batch q (s.next a) (tail_rows P s a) sz (length (s.waiting (streams_from P a)) + g)) p))
 
     fold-pays : t.job ≡ Fold → s.phase a ≡ Folding → Spends P L W s (landed P s w t Fold) a []
     fold-pays jb p =
@@ -334,9 +331,9 @@ module _ {R : Type 0} (P : Plan R) (L : Lawful P) (W : WellFormed P) where
         record {
           more = 0;
           come = λ sz sz' g g' z lg tf.
-            let x = come-kept s s' F a i refl refl refl sz' g g' lg (λ st. omega arith) in
-            let q : sz ≡ sz' = omega arith in let y = ap (λ x. come_at P s a x g) q in
-            omega arith;
+              let x = come-kept s s' F a i refl refl refl sz' g g' lg (λ st. omega arith) in
+              let q : sz ≡ sz' = omega arith in let y = ap (λ x. come_at P s a x g) q in
+              omega arith;
           goes = let x = outs-less in omega arith;
           pays = let x = tasks-less in let y = stage-less (ap ends jb) in omega arith;
         }
@@ -359,35 +356,35 @@ module _ {R : Type 0} (P : Plan R) (L : Lawful P) (W : WellFormed P) where
         record {
           more = 0;
           come = λ sz sz' g g' z lg tf.
-            let gs : ℕ = length (s.waiting (streams_from P a)) + g in
-            let gs' : ℕ = length (s.waiting (streams_from P a)) + g' in
-            let c : come_at P s a sz g ≡ cond v.streams gs 0 + sz = ap (λ q. come_by v P.batch q (s.next a) (tail_rows P s a) sz gs) p in
-            let c' : come_at P s' a sz' g' ≡ come_by v P.batch q' (s.next a) (tail_rows P s' a) sz' gs' = ap (λ q. come_by v P.batch q (s.next a) (tail_rows P s' a) sz' gs') ph in
-            elim (true_or_false v.streams) [
-                inl j ↦
-                  let d = ap (λ b. cond b gs 0) j in
-                  let d' = ap (λ b. come_by v P.batch (phase_after_seal_of b v.tails) (s.next a) (tail_rows P s' a) sz' gs') j in
-                  let f = cond_few v.cuts sz' in
-                  let h = lg (inr (F.started.folding a i p, j)) in
-                  omega arith
-              | inr j ↦
-                  let d' = ap (λ b. come_by v P.batch (phase_after_seal_of b v.tails) (s.next a) (tail_rows P s' a) sz' gs') j in
-                  elim (true_or_false v.tails) [
-                      inl tl ↦
-                        let d2 = ap (λ b. come_by v P.batch (phase_after_seal_of false b) (s.next a) (tail_rows P s' a) sz' gs') tl in
-                        let f = tf (ph ∙ ap (λ b. phase_after_seal_of b v.tails) j ∙ ap (λ b. phase_after_seal_of false b) tl) nx in
-                        omega arith
-                    | inr tl ↦
-                        let d2 = ap (λ b. come_by v P.batch (phase_after_seal_of false b) (s.next a) (tail_rows P s' a) sz' gs') tl in
-                        omega arith
-                  ]
-            ];
+              let gs : ℕ = length (s.waiting (streams_from P a)) + g in
+              let gs' : ℕ = length (s.waiting (streams_from P a)) + g' in
+              let c : come_at P s a sz g ≡ cond v.streams gs 0 + sz = ap (λ q. come_by v P.batch q (s.next a) (tail_rows P s a) sz gs) p in
+              let c' : come_at P s' a sz' g' ≡ come_by v P.batch q' (s.next a) (tail_rows P s' a) sz' gs' = ap (λ q. come_by v P.batch q (s.next a) (tail_rows P s' a) sz' gs') ph in
+              elim (true_or_false v.streams) [
+                | inl j ↦
+                    let d = ap (λ b. cond b gs 0) j in
+                    let d' = ap (λ b. come_by v P.batch (phase_after_seal_of b v.tails) (s.next a) (tail_rows P s' a) sz' gs') j in
+                    let f = cond_few v.cuts sz' in
+                    let h = lg (inr (F.started.folding a i p, j)) in
+                    omega arith
+                | inr j ↦
+                    let d' = ap (λ b. come_by v P.batch (phase_after_seal_of b v.tails) (s.next a) (tail_rows P s' a) sz' gs') j in
+                    elim (true_or_false v.tails) [
+                      | inl tl ↦
+                          let d2 = ap (λ b. come_by v P.batch (phase_after_seal_of false b) (s.next a) (tail_rows P s' a) sz' gs') tl in
+                          let f = tf (ph ∙ ap (λ b. phase_after_seal_of b v.tails) j ∙ ap (λ b. phase_after_seal_of false b) tl) nx in
+                          omega arith
+                      | inr tl ↦
+                          let d2 = ap (λ b. come_by v P.batch (phase_after_seal_of false b) (s.next a) (tail_rows P s' a) sz' gs') tl in
+                          omega arith
+                    ]
+              ];
           goes = omega arith;
           pays =
-            let st : stage_of P s' a ≡ stage_cost (endings P s' a) q' = ap (λ q. stage_cost (endings P s' a) q) ph in
-            let st0 : stage_cost (endings P s' a) q' ≡ stage_cost 0 q' = ap (λ k. stage_cost k q') e0 in
-            let few = sealed_few v.streams v.tails in
-            omega arith;
+              let st : stage_of P s' a ≡ stage_cost (endings P s' a) q' = ap (λ q. stage_cost (endings P s' a) q) ph in
+              let st0 : stage_cost (endings P s' a) q' ≡ stage_cost 0 q' = ap (λ k. stage_cost k q') e0 in
+              let few = sealed_few v.streams v.tails in
+              omega arith;
         }
       where
         sealed_few : (b c : Bool) → stage_cost 0 (phase_after_seal_of b c) ≤ 3
@@ -409,13 +406,13 @@ module _ {R : Type 0} (P : Plan R) (L : Lawful P) (W : WellFormed P) where
         record {
           more = 0;
           come = λ sz sz' g g' z lg tf.
-            let gs : ℕ = length (s.waiting (streams_from P a)) + g in
-            let gs' : ℕ = length (s.waiting (streams_from P a)) + g' in
-            let c : come_at P s a sz g ≡ gs + cond v.cuts sz 0 = ap (λ q. come_by v P.batch q (s.next a) (tail_rows P s a) sz gs) p in
-            let c' : come_at P s' a sz' g' ≡ parts P.batch (tail_rows P s' a) - s.next a = ap (λ q. come_by v P.batch q (s.next a) (tail_rows P s' a) sz' gs') ph in
-            let j = ap (λ b. cond b sz 0) ((W.nodes a i).closes (joins (F.started.streaming a i p) x.3) x.3) in
-            let f = tf ph nx in
-            omega arith;
+              let gs : ℕ = length (s.waiting (streams_from P a)) + g in
+              let gs' : ℕ = length (s.waiting (streams_from P a)) + g' in
+              let c : come_at P s a sz g ≡ gs + cond v.cuts sz 0 = ap (λ q. come_by v P.batch q (s.next a) (tail_rows P s a) sz gs) p in
+              let c' : come_at P s' a sz' g' ≡ parts P.batch (tail_rows P s' a) - s.next a = ap (λ q. come_by v P.batch q (s.next a) (tail_rows P s' a) sz' gs') ph in
+              let j = ap (λ b. cond b sz 0) ((W.nodes a i).closes (joins (F.started.streaming a i p) x.3) x.3) in
+              let f = tf ph nx in
+              omega arith;
           goes = omega arith;
           pays = omega arith;
         }
@@ -430,13 +427,13 @@ module _ {R : Type 0} (P : Plan R) (L : Lawful P) (W : WellFormed P) where
         let B : List (Batch R) = record { index = t.batch.index; rows = t.batch.rows; from = t.batch.from + P.batch } ∷ [] in
         let l : List R = left_of P t in
         elim (true_or_false (P.node a).cuts) [
-            inl c ↦
+          | inl c ↦
               let x = ap (λ b. length (cond {A = List (Batch R)} (b && ltb P.batch (length l)) B [])) c in
               let y = ap (λ b. cond b (size (sent P t)) 0) c in
               let y' = ap (λ b. weigh {A = R} (λ _. 1) (cond b (take P.batch l) l)) c in
               let y2 = weigh-one (take P.batch l) in
               elim (leb_tells (suc P.batch) (length l)) [
-                  inl q ↦
+                | inl q ↦
                     let z = ap (λ b. length (cond {A = List (Batch R)} b B [])) q.0 in
                     let u = length-take P.batch l in
                     let k = W.batch in
@@ -473,36 +470,36 @@ module _ {R : Type 0} (P : Plan R) (L : Lawful P) (W : WellFormed P) where
         record {
           more = 0;
           come = λ sz sz' g g' z lg tf.
-            let c : come_at P s a sz g ≡ (length (s.waiting e) + g) + cond v.cuts sz 0 = ap (λ q. come_by v P.batch q (s.next a) (tail_rows P s a) sz (length (s.waiting e) + g)) p in
-            let c' : come_at P s' a sz' g' ≡ (length (s'.waiting e) + g') + cond v.cuts sz' 0 = ap (λ q. come_by v P.batch q (s.next a) (tail_rows P s a) sz' (length (s'.waiting e) + g')) p in
-            let w' = ap length wa in
-            let f = back-few in
-            let h = lg st in
-            elim (true_or_false v.cuts) [
-                inl k ↦
-                  let x1 = ap (λ b. cond b sz 0) k in
-                  let x2 = ap (λ b. cond b sz' 0) k in
-                  let x3 = ap (λ b. cond b (size (sent P t)) 0) k in
-                  omega arith
-              | inr k ↦
-                  let x1 = ap (λ b. cond b sz 0) k in
-                  let x2 = ap (λ b. cond b sz' 0) k in
-                  let x3 = ap (λ b. cond b (size (sent P t)) 0) k in
-                  omega arith
-            ];
+              let c : come_at P s a sz g ≡ (length (s.waiting e) + g) + cond v.cuts sz 0 = ap (λ q. come_by v P.batch q (s.next a) (tail_rows P s a) sz (length (s.waiting e) + g)) p in
+              let c' : come_at P s' a sz' g' ≡ (length (s'.waiting e) + g') + cond v.cuts sz' 0 = ap (λ q. come_by v P.batch q (s.next a) (tail_rows P s a) sz' (length (s'.waiting e) + g')) p in
+              let w' = ap length wa in
+              let f = back-few in
+              let h = lg st in
+              elim (true_or_false v.cuts) [
+                | inl k ↦
+                    let x1 = ap (λ b. cond b sz 0) k in
+                    let x2 = ap (λ b. cond b sz' 0) k in
+                    let x3 = ap (λ b. cond b (size (sent P t)) 0) k in
+                    omega arith
+                | inr k ↦
+                    let x1 = ap (λ b. cond b sz 0) k in
+                    let x2 = ap (λ b. cond b sz' 0) k in
+                    let x3 = ap (λ b. cond b (size (sent P t)) 0) k in
+                    omega arith
+              ];
           goes = omega arith;
           pays =
-            let y = stage-less (ap ends jb) in
-            let E : ℕ → List (Batch R) → ℕ = λ j ws. edge_by P (s.paused j) (length ws) in
-            let m : mid a ≡ s.waiting a = upd-else s.waiting e (back P t ++ s.waiting e) a (λ q. let b = ip.before in absurd (omega arith)) in
-            let x1 = sum-upd P.sink a E mid (s.waiting a ++ sent P t ∷ []) i.0 i.1 in
-            let x2 = sum-upd P.sink e E s.waiting (back P t ++ s.waiting e) ip.node (let b = ip.before in let c = i.1 in omega arith) in
-            let x3 = ap (E a) m in
-            let x4 = ap (edge_by P (s.paused a)) (length-append (s.waiting a) (sent P t ∷ [])) in
-            let x5 = edge-more (s.paused a) (length (s.waiting a)) in
-            let x6 = ap (edge_by P (s.paused e)) bl in
-            let x7 = edge-back (s.paused e) (length (back P t)) (length (s.waiting e)) back-one in
-            omega arith;
+              let y = stage-less (ap ends jb) in
+              let E : ℕ → List (Batch R) → ℕ = λ j ws. edge_by P (s.paused j) (length ws) in
+              let m : mid a ≡ s.waiting a = upd-else s.waiting e (back P t ++ s.waiting e) a (λ q. let b = ip.before in absurd (omega arith)) in
+              let x1 = sum-upd P.sink a E mid (s.waiting a ++ sent P t ∷ []) i.0 i.1 in
+              let x2 = sum-upd P.sink e E s.waiting (back P t ++ s.waiting e) ip.node (let b = ip.before in let c = i.1 in omega arith) in
+              let x3 = ap (E a) m in
+              let x4 = ap (edge_by P (s.paused a)) (length-append (s.waiting a) (sent P t ∷ [])) in
+              let x5 = edge-more (s.paused a) (length (s.waiting a)) in
+              let x6 = ap (edge_by P (s.paused e)) bl in
+              let x7 = edge-back (s.paused e) (length (back P t)) (length (s.waiting e)) back-one in
+              omega arith;
         }
 
     pub landed-spends : (j : Job) → t.job ≡ j → s.phase a ≡ phase_of j → TaskFits P L W s a w t j → Spends P L W s (landed P s w t j) a (new_of P L W s F w t iw busy j)
@@ -520,13 +517,13 @@ module _ {R : Type 0} (P : Plan R) (L : Lawful P) (W : WellFormed P) where
       record {
         more = 0;
         come = λ sz sz' g g' z lg tf.
-          let x : come_at P s' n sz' g' ≡ 0 = ap (λ q. come_by (P.node n) P.batch q (s.next n) (tail_rows P s n) sz' (length (s.waiting (streams_from P n)) + g')) d in
-          omega arith;
+            let x : come_at P s' n sz' g' ≡ 0 = ap (λ q. come_by (P.node n) P.batch q (s.next n) (tail_rows P s n) sz' (length (s.waiting (streams_from P n)) + g')) d in
+            omega arith;
         goes = omega arith;
         pays =
-          let x : stage_of P s' n ≡ 0 = ap (λ q. stage_cost (endings P s' n) q) d in
-          let y = stage-left (endings P s n) (s.phase n) nd in
-          omega arith;
+            let x : stage_of P s' n ≡ 0 = ap (λ q. stage_cost (endings P s' n) q) d in
+            let y = stage-left (endings P s n) (s.phase n) nd in
+            omega arith;
       }
 
   paused-spends : (s : State R) → Fit P L W s → (e : ℕ) → IsEdge P e → (b : Bool) → edge_by P b (length (s.waiting e)) + 1 ≤ edge_of P s e → Spends P L W s (record s { paused = upd s.paused e b }) e []
@@ -536,20 +533,20 @@ module _ {R : Type 0} (P : Plan R) (L : Lawful P) (W : WellFormed P) where
       record {
         more = 0;
         come = λ sz sz' g g' z lg tf.
-          let x = come-kept s s' F e i refl refl refl sz' g g' lg (λ st. omega arith) in
-          let q : sz ≡ sz' = omega arith in let y = ap (λ x. come_at P s e x g) q in
-          omega arith;
+            let x = come-kept s s' F e i refl refl refl sz' g g' lg (λ st. omega arith) in
+            let q : sz ≡ sz' = omega arith in let y = ap (λ x. come_at P s e x g) q in
+            omega arith;
         goes = omega arith;
         pays =
-          let x = sum-upd P.sink e (λ j c. edge_by P c (length (s.waiting j))) s.paused b i.0 i.1 in
-          omega arith;
+            let x = sum-upd P.sink e (λ j c. edge_by P c (length (s.waiting j))) s.paused b i.0 i.1 in
+            omega arith;
       }
 
   pub pause-spends : (s : State R) → Fit P L W s → (e : ℕ) → CanPause P s e → Spends P L W s (record s { paused = upd s.paused e true }) e []
   pause-spends s F e c =
       paused-spends s F e c.0 true
       (elim (leb_tells (suc P.pause) (length (s.waiting e))) [
-          inl q ↦
+        | inl q ↦
             let x = ap (λ b. edge_by P b (length (s.waiting e))) c.2 in
             let y = ap (λ b. cond {A = ℕ} b 2 0) q.0 in
             omega arith
@@ -560,7 +557,7 @@ module _ {R : Type 0} (P : Plan R) (L : Lawful P) (W : WellFormed P) where
   resume-spends s F e c =
       paused-spends s F e c.0 false
       (elim (leb_tells (suc P.pause) (length (s.waiting e))) [
-          inl q ↦ absurd (let x = q.1 in let y = c.2 in let z = W.resume in omega arith)
+        | inl q ↦ absurd (let x = q.1 in let y = c.2 in let z = W.resume in omega arith)
         | inr q ↦
             let x = ap (λ b. edge_by P b (length (s.waiting e))) c.1 in
             let y = ap (λ b. cond {A = ℕ} b 2 0) q.0 in

@@ -1,18 +1,18 @@
 -- Each entry keeps a state sound, and the rows that the sink will have.
-use Rattle.std.proofs.Common.{◌≡◌, ℕ, ◌+◌, ◌<◌, ◌≤◌, ◌⊎◌, inl, inr, Bool, true, false, cond, ◌||◌, List, [], ◌∷◌, Option, Some, None, refl, sym, ap, subst, arith, ◌∙◌}
+use Rattle.std.proofs.Common.{◌≡◌, ℕ, ◌⊎◌, inl, inr, Bool, true, false, cond, ◌||◌, List, [], ◌∷◌, Option, Some, None, refl, sym, ap, subst, ◌∙◌}
 use Rattle.plan_machine.specs.declared.entry.Phase.{Phase}
-use Rattle.plan_machine.specs.declared.entry.Phase.TheVariants.{Folding, Done}
+use Rattle.plan_machine.specs.declared.entry.Phase.TheVariants.{Done}
 use Rattle.plan_machine.specs.declared.entry.Job.{Job}
 use Rattle.plan_machine.specs.declared.entry.Job.TheVariants.{Emit, Fold, Seal, Stream, Close, Tail}
 use Rattle.plan_machine.specs.declared.entry.Entry.{Entry}
 use Rattle.plan_machine.specs.declared.entry.Entry.TheVariants.{Claim, Deliver, Pause, Resume, Finish, Stop, Fail}
 use Rattle.plan_machine.specs.Lists.{upd}
 use Rattle.plan_machine.specs.Batch.{Batch}
-use Rattle.plan_machine.specs.Plan.{Plan, Node, IsNode, IsWorker}
+use Rattle.plan_machine.specs.Plan.{Plan, IsWorker}
 use Rattle.plan_machine.specs.State.{State, Task, opening}
-use Rattle.plan_machine.specs.Enabled.{Enabled, Ready}
+use Rattle.plan_machine.specs.Enabled.{Enabled}
 use Rattle.plan_machine.specs.After.{after, claimed, landed, delivered, is_done}
-use Rattle.plan_machine.specs.History.{replay, IsLegal, IsEnded}
+use Rattle.plan_machine.specs.History.{replay, IsLegal}
 use Rattle.plan_machine.specs.Meaning.{SameRows}
 use Rattle.plan_machine.specs.WellFormed.{Lawful, WellFormed}
 use Rattle.plan_machine.proofs.Same.{SameRows-refl, SameRows-trans}
@@ -28,7 +28,6 @@ use Rattle.plan_machine.proofs.Stops.{fit-stopped, AllDistinct-stopped, answer-s
 use Rattle.plan_machine.proofs.Opening.{AllDistinct-opening}
 
 module _ {R : Type 0} (P : Plan R) (L : Lawful P) (W : WellFormed P) where
-
   -- all that is kept of a state that no Fail has met
   pub record Good (s : State R) : Type 0 where
     pub sound : Sound P L W s
@@ -60,12 +59,12 @@ module _ {R : Type 0} (P : Plan R) (L : Lawful P) (W : WellFormed P) where
 
   -- A delivery is dropped at a node that is Done, and else lands: what holds of both holds of it.
   pub delivered-is : (Q : State R → Type 0) (s : State R) (w : ℕ) (t : Task R) → IsWorker P w → s.tasks w ≡ Some t → Fit P L W s → s.failed ≡ false
-    → (s.phase t.node ≡ Done → Q (record s { tasks = upd s.tasks w None })) → (s.phase t.node ≡ phase_of t.job → TaskFits P L W s t.node w t t.job → Q (landed P s w t t.job)) → Q (delivered P s w (Some t))
+      → (s.phase t.node ≡ Done → Q (record s { tasks = upd s.tasks w None })) → (s.phase t.node ≡ phase_of t.job → TaskFits P L W s t.node w t t.job → Q (landed P s w t t.job)) → Q (delivered P s w (Some t))
   delivered-is Q s w t iw busy F sound drop land =
       let to : (b : Bool) → (s.failed || is_done (s.phase t.node)) ≡ b → Q (cond b (record s { tasks = upd s.tasks w None }) (landed P s w t t.job)) → Q (delivered P s w (Some t)) =
-        λ b e m. subst (λ (c : Bool). Q (cond c (record s { tasks = upd s.tasks w None }) (landed P s w t t.job))) (sym e) m in
+      λ b e m. subst (λ (c : Bool). Q (cond c (record s { tasks = upd s.tasks w None }) (landed P s w t t.job))) (sym e) m in
       elim (F.tasks w t iw busy).1 [
-          inl d ↦ to true (ap (λ c. c || is_done (s.phase t.node)) sound ∙ ap is_done d) (drop d)
+        | inl d ↦ to true (ap (λ c. c || is_done (s.phase t.node)) sound ∙ ap is_done d) (drop d)
         | inr f ↦ to false (ap (λ c. c || is_done (s.phase t.node)) sound ∙ live t.job (s.phase t.node) f.0) (land f.0 f.1)
       ]
 
@@ -79,9 +78,9 @@ module _ {R : Type 0} (P : Plan R) (L : Lawful P) (W : WellFormed P) where
       let F = G.sound.fit in
       let b = en.1.1 in
       let x : GoesOn s (delivered P s w (Some t)) =
-        delivered-is (GoesOn s) s w t en.0 b F ok
-        (λ d. moved-on s (record s { tasks = upd s.tasks w None }) t.node [] G (drop-moved P L W s F w t en.0 b d) (folded-drop P s G.folded w en.0 t b d))
-        (λ p f. moved-on s (landed P s w t t.job) t.node (new_of P L W s F w t en.0 b t.job) G (landed-moved P L W s F w t en.0 b t.job refl p f) (folded-landed P s G.folded w en.0 t b t.job p (list s w t t.job f))) in
+      delivered-is (GoesOn s) s w t en.0 b F ok
+      (λ d. moved-on s (record s { tasks = upd s.tasks w None }) t.node [] G (drop-moved P L W s F w t en.0 b d) (folded-drop P s G.folded w en.0 t b d))
+      (λ p f. moved-on s (landed P s w t t.job) t.node (new_of P L W s F w t en.0 b t.job) G (landed-moved P L W s F w t en.0 b t.job refl p f) (folded-landed P s G.folded w en.0 t b t.job p (list s w t t.job f))) in
       subst (λ (o : Option (Task R)). GoesOn s (delivered P s w o)) (sym en.1.1) x
   step s (Pause e) G ok en ok' = moved-on s (record s { paused = upd s.paused e true }) e [] G (paused-moved P L W s G.sound.fit e en.1.0 true) G.folded
   step s (Resume e) G ok en ok' = moved-on s (record s { paused = upd s.paused e false }) e [] G (paused-moved P L W s G.sound.fit e en.1.0 false) G.folded
@@ -89,10 +88,10 @@ module _ {R : Type 0} (P : Plan R) (L : Lawful P) (W : WellFormed P) where
   step s (Stop n) G ok en ok' =
       record {
         good =
-          record {
-            sound = record { fit = fit-stopped P L W s G.sound.fit G.sound.distinct G.folded n en.1; distinct = AllDistinct-stopped P L W s G.sound.fit G.sound.distinct G.folded n en.1 };
-            folded = folded-stopped P L W s G.sound.fit G.sound.distinct G.folded n en.1;
-          };
+            record {
+              sound = record { fit = fit-stopped P L W s G.sound.fit G.sound.distinct G.folded n en.1; distinct = AllDistinct-stopped P L W s G.sound.fit G.sound.distinct G.folded n en.1 };
+              folded = folded-stopped P L W s G.sound.fit G.sound.distinct G.folded n en.1;
+            };
         same = answer-stopped P L W s G.sound.fit G.sound.distinct G.folded n en.1;
       }
   step s (Fail w) G ok en ok' = cc

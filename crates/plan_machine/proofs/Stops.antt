@@ -1,24 +1,24 @@
 -- A Stop ends the nodes below a fetch, whose rows were already all there.
-use Rattle.std.proofs.Common.{◌≡◌, ℕ, zero, suc, ◌+◌, ◌<◌, ◌≤◌, ◌≢◌, ◌⊎◌, inl, inr, Bool, true, false, cond, ◌&&◌, ◌||◌, eqb, ltb, List, [], ◌∷◌, ◌++◌, length, map, Option, Some, None, refl, sym, ap, subst, arith, ◌∙◌, append-nil, append_assoc, length-append}
+use Rattle.std.proofs.Common.{◌≡◌, ℕ, zero, suc, ◌+◌, ◌<◌, ◌≤◌, ◌≢◌, ◌⊎◌, inl, inr, Bool, true, false, cond, ◌&&◌, ◌||◌, eqb, ltb, List, [], ◌∷◌, ◌++◌, length, Some, None, refl, sym, ap, subst, arith, ◌∙◌, append-nil, append_assoc, length-append}
 use Rattle.std.proofs.lemmas.Bool.Decides.{eqb_tells, leb_tells}
 use Rattle.plan_machine.specs.declared.entry.Phase.{Phase}
-use Rattle.plan_machine.specs.declared.entry.Phase.TheVariants.{Emitting, Folding, Streaming, Tailing, Sealed, Done}
+use Rattle.plan_machine.specs.declared.entry.Phase.TheVariants.{Folding, Streaming, Done}
 use Rattle.plan_machine.specs.declared.entry.Job.{Job}
 use Rattle.plan_machine.specs.declared.entry.Job.TheVariants.{Emit, Fold, Seal, Stream, Close, Tail}
 use Rattle.plan_machine.specs.Lists.{gather, weigh}
 use Rattle.plan_machine.specs.Batch.{Batch, key, rows_of, gathered, has_key, rows_at, count_at}
-use Rattle.plan_machine.specs.Plan.{Plan, Node, IsNode, IsEdge, IsWorker, Folds, folds_from, streams_from}
+use Rattle.plan_machine.specs.Plan.{Plan, Node, IsNode, IsEdge, Folds, folds_from, streams_from}
 use Rattle.plan_machine.specs.State.{State, Task, IsEndedEdge}
 use Rattle.plan_machine.specs.Meaning.{SameRows}
-use Rattle.plan_machine.specs.Enabled.{CanStop, HasFront, front}
+use Rattle.plan_machine.specs.Enabled.{CanStop, front}
 use Rattle.plan_machine.specs.After.{leads, below, stopped}
-use Rattle.plan_machine.specs.WellFormed.{Streams, Lawful, WellFormed, IsInput, IsPlaced, IsSinkNode}
+use Rattle.plan_machine.specs.WellFormed.{Lawful, WellFormed, IsInput}
 use Rattle.plan_machine.proofs.Weigh.{weigh-append, weigh-flat, same_or, flat}
 use Rattle.plan_machine.proofs.Sorting.{gathered-front, front-like, later}
-use Rattle.plan_machine.proofs.Same.{Same, IsDistinct, IsDistinct-same, SameRows-equal, Same-refl, none_there}
-use Rattle.plan_machine.proofs.Value.{View, Coming, all_folded, base_by, future_by, tails_by, joined_by, view, coming, gives_of, holds_of, holds_by, future, future_with, base_with, answer}
-use Rattle.plan_machine.proofs.Pass.{true_or_false, fold_kept, stream_kept, Arrives, base-passed, future-passed, all_folded-same, tails-same}
-use Rattle.plan_machine.proofs.Turn.{folds_input, streams_input, input_edge, Started, folded_all, AllDistinct, Agree, view-agrees, future-done}
+use Rattle.plan_machine.proofs.Same.{Same, IsDistinct, IsDistinct-same, SameRows-equal, none_there}
+use Rattle.plan_machine.proofs.Value.{View, all_folded, base_by, future_by, tails_by, joined_by, view, coming, holds_of, holds_by, future, future_with, answer}
+use Rattle.plan_machine.proofs.Pass.{true_or_false, fold_kept, Arrives, base-passed, future-passed, all_folded-same, tails-same}
+use Rattle.plan_machine.proofs.Turn.{folds_input, streams_input, input_edge, folded_all, AllDistinct, Agree, view-agrees, future-done}
 use Rattle.plan_machine.proofs.Flight.{flying}
 use Rattle.plan_machine.proofs.Fit.{phase_of, TaskFits, TaskFit, Fit}
 use Rattle.plan_machine.proofs.Folded.{Folded}
@@ -34,13 +34,12 @@ or_false true b e = cc
 or_false false b e = (refl, e)
 
 module _ {R : Type 0} where
-
   rows_at-append : (i : ℕ) (xs ys : List (Batch R)) → rows_at i (xs ++ ys) ≡ rows_at i xs ++ rows_at i ys
   rows_at-append i [] ys = refl
   rows_at-append i (x ∷ xs) ys =
       let r = rows_at-append i xs ys in
       elim (eqb_tells (key x) i) [
-          inl e ↦ rw e.0 (rw r (sym (append_assoc x.rows (rows_at i xs) (rows_at i ys))))
+        | inl e ↦ rw e.0 (rw r (sym (append_assoc x.rows (rows_at i xs) (rows_at i ys))))
         | inr e ↦ rw e.0 r
       ]
 
@@ -53,7 +52,7 @@ module _ {R : Type 0} where
   length-rows_at i (x ∷ xs) =
       let r = length-rows_at i xs in
       elim (eqb_tells (key x) i) [
-          inl e ↦
+        | inl e ↦
             let c : rows_counted i x ≡ length x.rows = rw e.0 refl in
             let l = length-append x.rows (rows_at i xs) in
             let q : length (rows_at i (x ∷ xs)) ≡ length (x.rows ++ rows_at i xs) = rw e.0 refl in
@@ -76,18 +75,17 @@ module _ {R : Type 0} where
       omega arith
 
 module _ {R : Type 0} (P : Plan R) (L : Lawful P) (W : WellFormed P) where
-
   is_edge : (e : ℕ) → IsEdge P e → (ltb 0 e && ltb e P.sink) ≡ true
   is_edge e ie =
       elim (leb_tells 1 e) [
-          inl a ↦ elim (leb_tells (suc e) P.sink) [ inl b ↦ rw (a.0, b.0) refl | inr b ↦ absurd (let z = ie.1 in omega arith) ]
+        | inl a ↦ elim (leb_tells (suc e) P.sink) [ inl b ↦ rw (a.0, b.0) refl | inr b ↦ absurd (let z = ie.1 in omega arith) ]
         | inr a ↦ absurd (let z = ie.0 in omega arith)
       ]
 
   edge_or : (m : ℕ) → (IsEdge P m) ⊎ ((ltb 0 m && ltb m P.sink) ≡ false)
   edge_or m =
       elim (leb_tells 1 m) [
-          inl a ↦ elim (leb_tells (suc m) P.sink) [ inl b ↦ inl (a.1, b.1) | inr b ↦ inr (rw (a.0, b.0) refl) ]
+        | inl a ↦ elim (leb_tells (suc m) P.sink) [ inl b ↦ inl (a.1, b.1) | inr b ↦ inr (rw (a.0, b.0) refl) ]
         | inr a ↦ inr (rw a.0 refl)
       ]
 
@@ -95,12 +93,12 @@ module _ {R : Type 0} (P : Plan R) (L : Lawful P) (W : WellFormed P) where
   leads-stable : (n k m : ℕ) → P.sink ≤ k + m → leads P k m n ≡ leads P (suc k) m n
   leads-stable n zero m l =
       elim (edge_or m) [
-          inl e ↦ absurd (let z = e.1 in omega arith)
+        | inl e ↦ absurd (let z = e.1 in omega arith)
         | inr e ↦ sym (and_false (ltb 0 m && ltb m P.sink) e (eqb (P.user m) n || leads P 0 (P.user m) n))
       ]
   leads-stable n (suc k) m l =
       elim (edge_or m) [
-          inl e ↦
+        | inl e ↦
             let u = W.users m e in
             ap (λ (b : Bool). (ltb 0 m && ltb m P.sink) && (eqb (P.user m) n || b)) (leads-stable n k (P.user m) (omega arith))
         | inr e ↦ and_false (ltb 0 m && ltb m P.sink) e (eqb (P.user m) n || leads P k (P.user m) n) ∙ sym (and_false (ltb 0 m && ltb m P.sink) e (eqb (P.user m) n || leads P (suc k) (P.user m) n))
@@ -118,15 +116,15 @@ module _ {R : Type 0} (P : Plan R) (L : Lawful P) (W : WellFormed P) where
   leads-up n zero m e = cc
   leads-up n (suc k) m e =
       elim (edge_or m) [
-          inl ie ↦
+        | inl ie ↦
             let u = W.users m ie in
             let z : (eqb (P.user m) n || leads P k (P.user m) n) ≡ true = sym (and_true (ltb 0 m && ltb m P.sink) (is_edge m ie) (eqb (P.user m) n || leads P k (P.user m) n)) ∙ e in
             elim (eqb_tells (P.user m) n) [
-                inl q ↦ let y = q.1 in omega arith
+              | inl q ↦ let y = q.1 in omega arith
               | inr q ↦
-                let x : leads P k (P.user m) n ≡ true = rw q.0 at z in
-                let y = leads-up n k (P.user m) x in
-                omega arith
+                  let x : leads P k (P.user m) n ≡ true = rw q.0 at z in
+                  let y = leads-up n k (P.user m) x in
+                  omega arith
             ]
         | inr x ↦ let z : false ≡ true = sym (and_false (ltb 0 m && ltb m P.sink) x (eqb (P.user m) n || leads P k (P.user m) n)) ∙ e in cc
       ]
@@ -148,7 +146,6 @@ module _ {R : Type 0} (P : Plan R) (L : Lawful P) (W : WellFormed P) where
   took_held H t Tail = omega arith
 
   module _ (s : State R) (F : Fit P L W s) (D : AllDistinct P L W s) (G : Folded P s) (n : ℕ) (can : CanStop P s n) where
-
     abbrev s' : State R
     s' = stopped P s n
 
@@ -183,7 +180,7 @@ module _ {R : Type 0} (P : Plan R) (L : Lawful P) (W : WellFormed P) where
         let x = leads-next n P.sink e (omega arith) (input_edge P W m e im p) in
         let u = p.user in
         elim (eqb_tells (P.user e) n) [
-            inl q ↦ absurd (ne (sym u ∙ q.1))
+          | inl q ↦ absurd (ne (sym u ∙ q.1))
           | inr q ↦ x ∙ ap (λ c. c || below P (P.user e) n) q.0 ∙ ap (λ k. below P k n) u ∙ b
         ]
 
@@ -192,7 +189,7 @@ module _ {R : Type 0} (P : Plan R) (L : Lawful P) (W : WellFormed P) where
     input_below =
         let x = leads-next n P.sink e0 (omega arith) (input_edge P W n e0 i in0) in
         elim (eqb_tells (P.user e0) n) [
-            inl q ↦ x ∙ ap (λ c. c || below P (P.user e0) n) q.0
+          | inl q ↦ x ∙ ap (λ c. c || below P (P.user e0) n) q.0
           | inr q ↦ absurd (q.1 in0.user)
         ]
 
@@ -205,23 +202,23 @@ module _ {R : Type 0} (P : Plan R) (L : Lawful P) (W : WellFormed P) where
           folds = F.started.folding m im;
           streams = F.started.streaming m im;
           folded = λ fo H t.
-            let e : ℕ = folds_from P m in
-            let p = folds_input P W m im fo in
-            let c = input_on m e im ne b p in
-            let w = ap (weigh H) (waiting-same e c) in
-            let x = weigh-append H (s.waiting e) (f e) in
-            let y = weigh-append H (s'.waiting e) (f' e) in
-            let z = g e p c H t in
-            omega arith;
+              let e : ℕ = folds_from P m in
+              let p = folds_input P W m im fo in
+              let c = input_on m e im ne b p in
+              let w = ap (weigh H) (waiting-same e c) in
+              let x = weigh-append H (s.waiting e) (f e) in
+              let y = weigh-append H (s'.waiting e) (f' e) in
+              let z = g e p c H t in
+              omega arith;
           distinct = d;
           new = [];
           fresh = refl;
           waiting = λ st.
-            let p = streams_input P W m im st in
-            waiting-same (streams_from P m) (input_on m (streams_from P m) im ne b p) ∙ sym (append-nil (s.waiting (streams_from P m)));
+              let p = streams_input P W m im st in
+              waiting-same (streams_from P m) (input_on m (streams_from P m) im ne b p) ∙ sym (append-nil (s.waiting (streams_from P m)));
           streamed = λ st.
-            let p = streams_input P W m im st in
-            g (streams_from P m) p (input_on m (streams_from P m) im ne b p);
+              let p = streams_input P W m im st in
+              g (streams_from P m) p (input_on m (streams_from P m) im ne b p);
         }
 
     -- all that the fetch noted it holds
@@ -234,7 +231,6 @@ module _ {R : Type 0} (P : Plan R) (L : Lawful P) (W : WellFormed P) where
         omega arith
 
     module _ (k : ℕ) (l : n ≤ suc k) where
-
       abbrev all : List (Batch R)
       all = folded_all P L W s (future P k s) n
 
@@ -284,11 +280,11 @@ module _ {R : Type 0} (P : Plan R) (L : Lawful P) (W : WellFormed P) where
           let v : Node R = P.node n in
           let T : List R → List (Batch R) = λ b. tails_by v P.batch b (rows_of (s.streamed n)) in
           let a : future_with P s (future P k s) n ≡ T (gathered all) =
-            ap (λ (q : Phase). future_by v P.batch q (view P s n) (coming P s (future P k s) n)) can.folding
-            ∙ ap (λ c. cond c (joined_by v P.batch (gathered all) (coming P s (future P k s) n)) (T (gathered all))) fetch.1 in
+          ap (λ (q : Phase). future_by v P.batch q (view P s n) (coming P s (future P k s) n)) can.folding
+          ∙ ap (λ c. cond c (joined_by v P.batch (gathered all) (coming P s (future P k s) n)) (T (gathered all))) fetch.1 in
           let b : future_with P s' (future P k s') n ≡ T (gathered all') =
-            ap (λ (q : Phase). future_by v P.batch q (view P s' n) (coming P s' (future P k s') n)) (phase-same n (not_below n) ∙ can.folding)
-            ∙ ap (λ c. cond c (joined_by v P.batch (gathered all') (coming P s' (future P k s') n)) (T (gathered all'))) fetch.1 in
+          ap (λ (q : Phase). future_by v P.batch q (view P s' n) (coming P s' (future P k s') n)) (phase-same n (not_below n) ∙ can.folding)
+          ∙ ap (λ c. cond c (joined_by v P.batch (gathered all') (coming P s' (future P k s') n)) (T (gathered all'))) fetch.1 in
           let c : Same v.kept (T (gathered all)) (T (gathered all')) = tails-same v P.batch (gathered all) (gathered all') _ _ W.batch (λ t. SameRows-equal v.kept _ _ (rest-same (rows_of (s.streamed n)))) in
           λ H t. let x = ap (weigh H) a in let y = ap (weigh H) b in let z = c H t in omega arith
 
@@ -306,12 +302,12 @@ module _ {R : Type 0} (P : Plan R) (L : Lawful P) (W : WellFormed P) where
     kept-future zero m im l b = absurd (let z = im.0 in omega arith)
     kept-future (suc k) m im l b =
         elim (same_or m n) [
-            inl q ↦ subst (λ (x : ℕ). x ≤ suc k → Same (P.node x).kept (future_with P s (future P k s) x) (future_with P s' (future P k s') x)) (sym q) (λ l. future-fetch k l) l
+          | inl q ↦ subst (λ (x : ℕ). x ≤ suc k → Same (P.node x).kept (future_with P s (future P k s) x) (future_with P s' (future P k s') x)) (sym q) (λ l. future-fetch k l) l
           | inr q ↦
-            let A = arrives (future P k s) (future P k s') m im q b
+              let A = arrives (future P k s) (future P k s') m im q b
               (λ e p c. kept-future k e (p.node, (let z = p.before in let y = im.1 in omega arith)) (let z = p.before in omega arith) c) (D k m im l) in
-            let x = future-passed P L W m im (view P s m) (coming P s (future P k s) m) (coming P s' (future P k s') m) (s.phase m) A in
-            subst (λ (X : View R). Same (P.node m).kept (future_with P s (future P k s) m) (future_by (P.node m) P.batch X.phase X (coming P s' (future P k s') m))) (view-agrees P L W s s' m (agree m b)) x
+              let x = future-passed P L W m im (view P s m) (coming P s (future P k s) m) (coming P s' (future P k s') m) (s.phase m) A in
+              subst (λ (X : View R). Same (P.node m).kept (future_with P s (future P k s) m) (future_by (P.node m) P.batch X.phase X (coming P s' (future P k s') m))) (view-agrees P L W s s' m (agree m b)) x
         ]
 
     arrives-at : (k m : ℕ) → IsNode P m → m ≤ suc k → m ≢ n → below P m n ≡ false → Arrives P L W m (s.phase m) (view P s m) (coming P s (future P k s) m) (coming P s' (future P k s') m)
@@ -323,20 +319,20 @@ module _ {R : Type 0} (P : Plan R) (L : Lawful P) (W : WellFormed P) where
     AllDistinct-stopped k m im l q ke =
         let b : below P m n ≡ false = goes_on m (λ d. let z = sym q ∙ d in cc) in
         elim (same_or m n) [
-            inl e ↦ subst (λ (x : ℕ). x ≤ suc k → IsDistinct (folded_all P L W s' (future P k s') x)) (sym e) (λ l. distinct-after k l) l
+          | inl e ↦ subst (λ (x : ℕ). x ≤ suc k → IsDistinct (folded_all P L W s' (future P k s') x)) (sym e) (λ l. distinct-after k l) l
           | inr e ↦
-            let A = arrives-at k m im l e b in
-            let ph : s.phase m ≡ Folding = sym (phase-same m b) ∙ q in
-            let x = all_folded-same P L W m im (view P s m) (coming P s (future P k s) m) (coming P s' (future P k s') m) (s.phase m) A (F.started.folding m im ph) in
-            let y = subst (λ (X : View R). Same (fold_kept P L W m) (folded_all P L W s (future P k s) m) (all_folded X (coming P s' (future P k s') m))) (view-agrees P L W s s' m (agree m b)) x in
-            IsDistinct-same _ _ (subst (λ (c : Bool). Same c (folded_all P L W s (future P k s) m) (folded_all P L W s' (future P k s') m)) ke y) (D k m im l ph ke)
+              let A = arrives-at k m im l e b in
+              let ph : s.phase m ≡ Folding = sym (phase-same m b) ∙ q in
+              let x = all_folded-same P L W m im (view P s m) (coming P s (future P k s) m) (coming P s' (future P k s') m) (s.phase m) A (F.started.folding m im ph) in
+              let y = subst (λ (X : View R). Same (fold_kept P L W m) (folded_all P L W s (future P k s) m) (all_folded X (coming P s' (future P k s') m))) (view-agrees P L W s s' m (agree m b)) x in
+              IsDistinct-same _ _ (subst (λ (c : Bool). Same c (folded_all P L W s (future P k s) m) (folded_all P L W s' (future P k s') m)) ke y) (D k m im l ph ke)
         ]
 
     -- the sink is no fetch, and goes on
     sink_on : below P P.sink n ≡ false
     sink_on =
         elim (true_or_false (below P P.sink n)) [
-            inl b ↦ absurd (let z = leads-up n P.sink P.sink b in let y = i.1 in omega arith)
+          | inl b ↦ absurd (let z = leads-up n P.sink P.sink b in let y = i.1 in omega arith)
           | inr b ↦ b
         ]
 
@@ -358,13 +354,13 @@ module _ {R : Type 0} (P : Plan R) (L : Lawful P) (W : WellFormed P) where
     fits-kept w t Fold im b p f = f
     fits-kept w t Seal im b p f =
         elim (same_or t.node n) [
-            inl q ↦ absurd (can.open_input (ap (λ m. s.phase (folds_from P m)) (sym q) ∙ f.2.0))
+          | inl q ↦ absurd (can.open_input (ap (λ m. s.phase (folds_from P m)) (sym q) ∙ f.2.0))
           | inr q ↦ (f.0, f.1, ended-kept t.node (folds_from P t.node) im q b (folds_input P W t.node im (F.started.folding t.node im p)) f.2)
         ]
     fits-kept w t Stream im b p f = f
     fits-kept w t Close im b p f =
         elim (same_or t.node n) [
-            inl q ↦ let z : Streaming ≡ Folding = sym p ∙ ap s.phase q ∙ can.folding in cc
+          | inl q ↦ let z : Streaming ≡ Folding = sym p ∙ ap s.phase q ∙ can.folding in cc
           | inr q ↦ (f.0, f.1, ended-kept t.node (streams_from P t.node) im q b (streams_input P W t.node im (F.started.streaming t.node im p)) f.2, f.3)
         ]
     fits-kept w t Tail im b p f = tt
@@ -372,7 +368,7 @@ module _ {R : Type 0} (P : Plan R) (L : Lawful P) (W : WellFormed P) where
     task-kept : (w : ℕ) (t : Task R) → TaskFit P L W s w t → TaskFit P L W s' w t
     task-kept w t f =
         elim (true_or_false (below P t.node n)) [
-            inl b ↦ (f.0, inl (phase-done t.node b))
+          | inl b ↦ (f.0, inl (phase-done t.node b))
           | inr b ↦ by_fit b f
         ]
       where
@@ -387,21 +383,21 @@ module _ {R : Type 0} (P : Plan R) (L : Lawful P) (W : WellFormed P) where
     fit-stopped =
         record {
           started =
-            record {
-              folding = λ m im p. F.started.folding m im (on_of m Folding p (λ z. cc));
-              streaming = λ m im p. F.started.streaming m im (on_of m Streaming p (λ z. cc));
-            };
+              record {
+                folding = λ m im p. F.started.folding m im (on_of m Folding p (λ z. cc));
+                streaming = λ m im p. F.started.streaming m im (on_of m Streaming p (λ z. cc));
+              };
           next_fold = λ m im p. F.next_fold m im (on_of m Folding p (λ z. cc));
           next_stream = λ m im p. F.next_stream m im (on_of m Streaming p (λ z. cc));
           from_fold = λ m im p j.
-            let ph = on_of m Folding p (λ z. cc) in
-            let b = goes_on m (λ d. let z = sym p ∙ d in cc) in
-            elim (same_or m n) [
-                inl q ↦ let z : true ≡ false = sym j ∙ ap (λ k. (P.node k).streams) q ∙ fetch.1 in cc
-              | inr q ↦
-                let e = input_on m (streams_from P m) im q b (streams_input P W m im (inr (F.started.folding m im ph, j))) in
-                ap (weigh (λ b. b.from)) (waiting-same (streams_from P m) e) ∙ F.from_fold m im ph j
-            ];
+              let ph = on_of m Folding p (λ z. cc) in
+              let b = goes_on m (λ d. let z = sym p ∙ d in cc) in
+              elim (same_or m n) [
+                | inl q ↦ let z : true ≡ false = sym j ∙ ap (λ k. (P.node k).streams) q ∙ fetch.1 in cc
+                | inr q ↦
+                    let e = input_on m (streams_from P m) im q b (streams_input P W m im (inr (F.started.folding m im ph, j))) in
+                    ap (weigh (λ b. b.from)) (waiting-same (streams_from P m) e) ∙ F.from_fold m im ph j
+              ];
           tasks = λ w t iw b. task-kept w t (F.tasks w t iw b);
         }
 

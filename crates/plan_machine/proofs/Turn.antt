@@ -1,26 +1,24 @@
 -- An entry changes one node and gives some batches to that node's edge: then every node still gives
 -- what it gave, and the rows of the sink stay the same.
-use Rattle.std.proofs.Common.{◌≡◌, ℕ, zero, suc, ◌+◌, ◌<◌, ◌≤◌, ◌≢◌, ◌⊎◌, inl, inr, Bool, true, false, cond, eqb, List, [], ◌∷◌, ◌++◌, length, map, Option, Some, None, refl, sym, ap, subst, arith, ◌∙◌, append-nil}
+use Rattle.std.proofs.Common.{◌≡◌, ℕ, zero, suc, ◌≤◌, ◌≢◌, ◌⊎◌, inl, inr, Bool, true, cond, eqb, List, [], ◌++◌, refl, sym, ap, subst, arith, ◌∙◌, append-nil}
 use Rattle.std.proofs.lemmas.Bool.Decides.{eqb_tells}
-use Rattle.plan_machine.specs.declared.entry.Phase.{Phase}
-use Rattle.plan_machine.specs.declared.entry.Phase.TheVariants.{Emitting, Folding, Streaming, Tailing, Sealed, Done}
+use Rattle.plan_machine.specs.declared.entry.Phase.TheVariants.{Folding, Streaming, Done}
 use Rattle.plan_machine.specs.Lists.{gather, weigh}
 use Rattle.plan_machine.specs.Batch.{Batch}
-use Rattle.plan_machine.specs.Plan.{Plan, Node, IsNode, IsEdge, IsSource, Folds, IsJoin, OnlyStreams, folds_from, streams_from}
+use Rattle.plan_machine.specs.Plan.{Plan, IsNode, IsEdge, IsSource, Folds, folds_from, streams_from}
 use Rattle.plan_machine.specs.State.{State, Task, tasks_at}
 use Rattle.plan_machine.specs.Meaning.{SameRows}
-use Rattle.plan_machine.specs.WellFormed.{Streams, Lawful, WellFormed, IsInput, IsPlaced}
+use Rattle.plan_machine.specs.WellFormed.{Streams, Lawful, WellFormed, IsInput}
 use Rattle.plan_machine.proofs.Weigh.{weigh-append, same_or, flat}
 use Rattle.plan_machine.proofs.Same.{Same, IsDistinct, IsDistinct-same, SameRows-trans}
-use Rattle.plan_machine.proofs.Value.{View, Coming, holds_of, gives_of, all_folded, base_by, future_by, view, coming, future_with, base_with, future, answer}
-use Rattle.plan_machine.proofs.Pass.{true_or_false, Same-trans, fold_kept, stream_kept, Arrives, base-passed, future-passed, all_folded-same}
+use Rattle.plan_machine.proofs.Value.{View, holds_of, gives_of, all_folded, base_by, future_by, view, coming, future_with, base_with, future, answer}
+use Rattle.plan_machine.proofs.Pass.{true_or_false, Same-trans, fold_kept, Arrives, base-passed, future-passed, all_folded-same}
 
 -- the batches that are new on edge e, where node a gives them
 abbrev pub new_at : {A : Type 0} → ℕ → List A → ℕ → List A
 new_at a new e = cond (eqb e a) new []
 
 module _ {R : Type 0} (P : Plan R) (W : WellFormed P) where
-
   pub not_source : (n : ℕ) → Streams (P.node n) ⊎ Folds (P.node n) → IsSource (P.node n) → ⊥
   not_source n (inl (inl o)) s = let e = sym o ∙ s in cc
   not_source n (inl (inr j)) s = let e = sym j.0 ∙ s in cc
@@ -29,7 +27,7 @@ module _ {R : Type 0} (P : Plan R) (W : WellFormed P) where
   pub folds_input : (n : ℕ) → IsNode P n → Folds (P.node n) → IsInput P n (folds_from P n)
   folds_input n i f =
       elim (true_or_false (P.node n).streams) [
-          inl s ↦ let g : folds_from P n ≡ (P.node n).second = rw s refl in subst (λ (e : ℕ). IsInput P n e) (sym g) ((W.nodes n i).second (f, s))
+        | inl s ↦ let g : folds_from P n ≡ (P.node n).second = rw s refl in subst (λ (e : ℕ). IsInput P n e) (sym g) ((W.nodes n i).second (f, s))
         | inr s ↦ let g : folds_from P n ≡ (P.node n).first = rw s refl in subst (λ (e : ℕ). IsInput P n e) (sym g) ((W.nodes n i).first (not_source n (inr f)))
       ]
 
@@ -40,7 +38,6 @@ module _ {R : Type 0} (P : Plan R) (W : WellFormed P) where
   input_edge n e i p = let a = p.before in let b = i.1 in (p.node, omega arith)
 
 module _ {R : Type 0} (P : Plan R) (L : Lawful P) (W : WellFormed P) where
-
   -- a node that is Folding folds, and one that is Streaming streams
   pub record Started (s : State R) : Type 0 where
     pub folding : (n : ℕ) → IsNode P n → s.phase n ≡ Folding → Folds (P.node n)
@@ -96,7 +93,6 @@ module _ {R : Type 0} (P : Plan R) (L : Lawful P) (W : WellFormed P) where
   future-done (suc k) s e d = rw d refl
 
   module _ (s s' : State R) (a : ℕ) (new : List (Batch R)) (S : Started s) (T : Turn s s' a new) where
-
     new_at-here : (n : ℕ) → n ≡ a → new_at a new n ≡ new
     new_at-here n e = elim (eqb_tells n a) [ inl q ↦ rw q.0 refl | inr q ↦ absurd (q.1 e) ]
 
@@ -116,22 +112,22 @@ module _ {R : Type 0} (P : Plan R) (L : Lawful P) (W : WellFormed P) where
           folds = S.folding n i;
           streams = S.streaming n i;
           folded = λ fo H t.
-            let p = folds_input P W n i fo in
-            let e : ℕ = folds_from P n in
-            let w = ap (weigh H) (T.added e (input_edge P W n e i p) (λ u. ne (sym p.user ∙ u))) in
-            let w' = weigh-append H (s.waiting e) (new_at a new e) in
-            let x = weigh-append H (s.waiting e) (f e) in
-            let y = weigh-append H (s'.waiting e) (f' e) in
-            let z = g e p H t in
-            let z' = weigh-append H (new_at a new e) (f' e) in
-            omega arith;
+              let p = folds_input P W n i fo in
+              let e : ℕ = folds_from P n in
+              let w = ap (weigh H) (T.added e (input_edge P W n e i p) (λ u. ne (sym p.user ∙ u))) in
+              let w' = weigh-append H (s.waiting e) (new_at a new e) in
+              let x = weigh-append H (s.waiting e) (f e) in
+              let y = weigh-append H (s'.waiting e) (f' e) in
+              let z = g e p H t in
+              let z' = weigh-append H (new_at a new e) (f' e) in
+              omega arith;
           distinct = d;
           new = new_at a new (streams_from P n);
           fresh = fresh_at (streams_from P n);
           waiting = λ st.
-            let p = streams_input P W n i st in
-            let e : ℕ = streams_from P n in
-            T.added e (input_edge P W n e i p) (λ u. ne (sym p.user ∙ u));
+              let p = streams_input P W n i st in
+              let e : ℕ = streams_from P n in
+              T.added e (input_edge P W n e i p) (λ u. ne (sym p.user ∙ u));
           streamed = λ st. g (streams_from P n) (streams_input P W n i st);
         }
 
@@ -139,20 +135,20 @@ module _ {R : Type 0} (P : Plan R) (L : Lawful P) (W : WellFormed P) where
     nears : (f f' : ℕ → List (Batch R)) → IsNode P a → Give f f' a → DistinctAt s f a → Arrives P L W a (s.phase a) (view P s a) (coming P s f a) (coming P s f' a)
     nears f f' i g d =
         let near : (e : ℕ) → IsInput P a e → Same (P.node e).kept (f e) (f' e) = λ e p H t.
-          let q = p.before in
-          let z = ap (weigh H) (new_at-else e (λ w. absurd (omega arith))) in
-          let z' = weigh-append H (new_at a new e) (f' e) in
-          let x = g e p H t in
-          omega arith in
+        let q = p.before in
+        let z = ap (weigh H) (new_at-else e (λ w. absurd (omega arith))) in
+        let z' = weigh-append H (new_at a new e) (f' e) in
+        let x = g e p H t in
+        omega arith in
         record {
           folds = S.folding a i;
           streams = S.streaming a i;
           folded = λ fo H t.
-            let e : ℕ = folds_from P a in
-            let x = weigh-append H (s.waiting e) (f e) in
-            let y = weigh-append H (s.waiting e) (f' e) in
-            let z = near e (folds_input P W a i fo) H t in
-            omega arith;
+              let e : ℕ = folds_from P a in
+              let x = weigh-append H (s.waiting e) (f e) in
+              let y = weigh-append H (s.waiting e) (f' e) in
+              let z = near e (folds_input P W a i fo) H t in
+              omega arith;
           distinct = d;
           new = [];
           fresh = refl;
@@ -188,19 +184,18 @@ module _ {R : Type 0} (P : Plan R) (L : Lawful P) (W : WellFormed P) where
     level : (f f' : ℕ → List (Batch R)) (n : ℕ) → IsNode P n → Give f f' n → ((e : ℕ) → s'.phase e ≡ Done → f' e ≡ []) → DistinctAt s f n → Same (P.node n).kept (future_with P s f n) (new_at a new n ++ future_with P s' f' n)
     level f f' n i g nil' d =
         elim (same_or n a) [
-            inl e ↦
-            let z : GivesHere f f' a = λ i g d. rw (new_at-here a refl) (gives-here f f' i g nil' d) in
-            subst (GivesHere f f') (sym e) z i g d
+          | inl e ↦
+              let z : GivesHere f f' a = λ i g d. rw (new_at-here a refl) (gives-here f f' i g nil' d) in
+              subst (GivesHere f f') (sym e) z i g d
           | inr e ↦
-            let A = arrives f f' n i e g d in
-            let p = future-passed P L W n i (view P s n) (coming P s f n) (coming P s' f' n) (s.phase n) A in
-            let q : Same (P.node n).kept (future_with P s f n) (future_with P s' f' n) =
+              let A = arrives f f' n i e g d in
+              let p = future-passed P L W n i (view P s n) (coming P s f n) (coming P s' f' n) (s.phase n) A in
+              let q : Same (P.node n).kept (future_with P s f n) (future_with P s' f' n) =
               subst (λ (X : View R). Same (P.node n).kept (future_with P s f n) (future_by (P.node n) P.batch X.phase X (coming P s' f' n))) (view-agrees s s' n (T.others n i e)) p in
-            rw (new_at-else n e) q
+              rw (new_at-else n e) q
         ]
 
     module _ (D : AllDistinct s) where
-
       pub turned : (k n : ℕ) → IsNode P n → n ≤ k → Same (P.node n).kept (future P k s n) (new_at a new n ++ future P k s' n)
       unfolding future
       turned zero n i l = absurd (let z = i.0 in omega arith)
@@ -224,15 +219,15 @@ module _ {R : Type 0} (P : Plan R) (L : Lawful P) (W : WellFormed P) where
       pub AllDistinct-turned : AllDistinct s'
       AllDistinct-turned k n i l q ke =
           elim (same_or n a) [
-              inl e ↦ subst (DistinctThen k) (sym e) (distinct_then k) i l q ke
+            | inl e ↦ subst (DistinctThen k) (sym e) (distinct_then k) i l q ke
             | inr e ↦
-              let A = arrives (future P k s) (future P k s') n i e (gave k n i l) (D k n i l) in
-              let v : view P s n ≡ view P s' n = view-agrees s s' n (T.others n i e) in
-              let ph : s.phase n ≡ Folding = ap (λ (X : View R). X.phase) v ∙ q in
-              let m = all_folded-same P L W n i (view P s n) (coming P s (future P k s) n) (coming P s' (future P k s') n) (s.phase n) A (S.folding n i ph) in
-              let m' : Same (fold_kept P L W n) (folded_all s (future P k s) n) (folded_all s' (future P k s') n) =
+                let A = arrives (future P k s) (future P k s') n i e (gave k n i l) (D k n i l) in
+                let v : view P s n ≡ view P s' n = view-agrees s s' n (T.others n i e) in
+                let ph : s.phase n ≡ Folding = ap (λ (X : View R). X.phase) v ∙ q in
+                let m = all_folded-same P L W n i (view P s n) (coming P s (future P k s) n) (coming P s' (future P k s') n) (s.phase n) A (S.folding n i ph) in
+                let m' : Same (fold_kept P L W n) (folded_all s (future P k s) n) (folded_all s' (future P k s') n) =
                 subst (λ (X : View R). Same (fold_kept P L W n) (folded_all s (future P k s) n) (all_folded X (coming P s' (future P k s') n))) v m in
-              IsDistinct-same _ _ (subst (λ (b : Bool). Same b (folded_all s (future P k s) n) (folded_all s' (future P k s') n)) ke m') (D k n i l ph ke)
+                IsDistinct-same _ _ (subst (λ (b : Bool). Same b (folded_all s (future P k s) n) (folded_all s' (future P k s') n)) ke m') (D k n i l ph ke)
           ]
 
       abbrev BaseThen : ℕ → Type 0
@@ -245,9 +240,9 @@ module _ {R : Type 0} (P : Plan R) (L : Lawful P) (W : WellFormed P) where
       answer-turned =
           let i : IsNode P P.sink = (W.sink_node, omega arith) in
           elim (same_or P.sink a) [
-              inl e ↦ subst BaseThen (sym e) base_then i (omega arith)
+            | inl e ↦ subst BaseThen (sym e) base_then i (omega arith)
             | inr e ↦
-              let A = arrives (future P P.sink s) (future P P.sink s') P.sink i e (gave P.sink P.sink i (omega arith)) (D P.sink P.sink i (omega arith)) in
-              let p = base-passed P L W P.sink i (view P s P.sink) (coming P s (future P P.sink s) P.sink) (coming P s' (future P P.sink s') P.sink) (s.phase P.sink) A in
-              subst (λ (X : View R). SameRows (fold_kept P L W P.sink) (answer P s) (base_by X.phase X (coming P s' (future P P.sink s') P.sink))) (view-agrees s s' P.sink (T.others P.sink i e)) p
+                let A = arrives (future P P.sink s) (future P P.sink s') P.sink i e (gave P.sink P.sink i (omega arith)) (D P.sink P.sink i (omega arith)) in
+                let p = base-passed P L W P.sink i (view P s P.sink) (coming P s (future P P.sink s) P.sink) (coming P s' (future P P.sink s') P.sink) (s.phase P.sink) A in
+                subst (λ (X : View R). SameRows (fold_kept P L W P.sink) (answer P s) (base_by X.phase X (coming P s' (future P P.sink s') P.sink))) (view-agrees s s' P.sink (T.others P.sink i e)) p
           ]

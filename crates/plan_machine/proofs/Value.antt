@@ -1,15 +1,15 @@
 -- What each node of a plan still gives from a state on, and the rows that the sink will have.
-use Rattle.std.proofs.Common.{◌≡◌, ℕ, zero, suc, ◌+◌, ◌<◌, ◌≤◌, ◌≢◌, ◌⊎◌, inl, inr, Bool, true, false, cond, List, [], ◌∷◌, ◌++◌, length, take, drop, map, Option, Some, None, refl, sym, ap, arith, ◌∙◌}
+use Rattle.std.proofs.Common.{ℕ, zero, suc, cond, List, [], ◌∷◌, ◌++◌, drop, map}
 use Rattle.plan_machine.specs.declared.entry.Phase.{Phase}
 use Rattle.plan_machine.specs.declared.entry.Phase.TheVariants.{Emitting, Folding, Streaming, Tailing, Sealed, Done}
 use Rattle.plan_machine.specs.declared.entry.Job.{Job}
 use Rattle.plan_machine.specs.declared.entry.Job.TheVariants.{Emit, Fold, Seal, Stream, Close, Tail}
-use Rattle.plan_machine.specs.Lists.{gather, weigh}
-use Rattle.plan_machine.specs.Batch.{Batch, rows_of, gathered, marked, parts, piece}
+use Rattle.plan_machine.specs.Lists.{gather}
+use Rattle.plan_machine.specs.Batch.{Batch, rows_of, gathered, marked, piece}
 use Rattle.plan_machine.specs.Plan.{Plan, Node, folds_from, streams_from}
 use Rattle.plan_machine.specs.State.{State, Task, tasks_at}
 use Rattle.plan_machine.proofs.Weigh.{flat}
-use Rattle.plan_machine.proofs.Pieces.{pieces, pieces_from}
+use Rattle.plan_machine.proofs.Pieces.{pieces_from}
 
 -- all that a streamed batch gives, and what is left of it
 abbrev pub whole_of : {R : Type 0} → Node R → List R → Batch R → Batch R
@@ -73,7 +73,6 @@ future_by v batch Sealed V C = []
 future_by v batch Done V C = []
 
 module _ {R : Type 0} (P : Plan R) where
-
   -- what a task in flight gives, and what its worker's list will hold
   abbrev pub gives_by : Task R → Job → List (Batch R)
   gives_by t Emit = piece (P.node t.node).kept P.batch (P.node t.node).table t.number ∷ []

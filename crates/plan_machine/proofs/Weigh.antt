@@ -1,7 +1,7 @@
 -- Weights of lists, functions of numbers that differ at one place, and lists of the workers.
-use Rattle.std.proofs.Common.{◌≡◌, ℕ, zero, suc, ◌+◌, ◌<◌, ◌≤◌, ◌≢◌, ◌⊎◌, inl, inr, Bool, true, false, cond, eqb, List, [], ◌∷◌, ◌++◌, length, map, take, drop, refl, sym, ap, arith, ◌∙◌, append_assoc, append-nil}
-use Rattle.std.proofs.lemmas.Bool.Decides.{eqb_tells, nat_tests}
-use Rattle.plan_machine.specs.Lists.{upd, at_or, without, gather, sum_to, weigh}
+use Rattle.std.proofs.Common.{◌≡◌, ℕ, zero, suc, ◌+◌, ◌<◌, ◌≤◌, ◌≢◌, ◌⊎◌, inl, inr, List, [], ◌∷◌, ◌++◌, length, map, take, drop, refl, sym, ap, arith}
+use Rattle.std.proofs.lemmas.Bool.Decides.{eqb_tells}
+use Rattle.plan_machine.specs.Lists.{upd, at_or, without, gather, weigh}
 use Rattle.plan_machine.specs.Batch.{Batch, rows_of}
 
 -- the lists of all elements, one after another
@@ -72,7 +72,7 @@ gather-change h (suc n) w f g l m e =
     let a = weigh-append h (gather n f) (f (suc n)) in
     let b = weigh-append h (gather n g) (g (suc n)) in
     elim (same_or w (suc n)) [
-        inl q ↦
+      | inl q ↦
           let r : gather n f ≡ gather n g = gather-same n f g (λ j _ k. e j (λ s. absurd (omega arith))) in
           let fw : weigh h (f w) ≡ weigh h (f (suc n)) = ap (λ j. weigh h (f j)) q in
           let gw : weigh h (g w) ≡ weigh h (g (suc n)) = ap (λ j. weigh h (g j)) q in
@@ -97,6 +97,6 @@ gather-none h zero w f l m = absurd (omega arith)
 gather-none h (suc n) w f l m =
     let a = weigh-append h (gather n f) (f (suc n)) in
     elim (same_or w (suc n)) [
-        inl q ↦ let fw : weigh h (f w) ≡ weigh h (f (suc n)) = ap (λ j. weigh h (f j)) q in omega arith
+      | inl q ↦ let fw : weigh h (f w) ≡ weigh h (f (suc n)) = ap (λ j. weigh h (f j)) q in omega arith
       | inr q ↦ let c = gather-none h n w f l (omega arith) in omega arith
     ]

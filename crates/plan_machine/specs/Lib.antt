@@ -13,3 +13,5 @@ pub mod WellFormed
 pub mod Bound
 pub mod Budget
 pub mod Laws
+pub mod Examples
+pub mod DriverLaws

@@ -8,12 +8,10 @@ ghost use Rattle.plan_machine.specs.Laws.{RowsKept, NoMoreEntries};
 /// stands there as often in any case.
 pub fn rows_kept<R>()
     ensures { RowsKept R }
-{
-}
+{}
 
 /// A history ends: no history, also none that fails, has more entries than ten for each batch that each
 /// node may give and eight for each node.
 pub fn no_more_entries<R>()
     ensures { NoMoreEntries R }
-{
-}
+{}
