@@ -1,5 +1,5 @@
 -- What each node, edge and task may still cost in entries, and that one entry spends some of it.
-use Rattle.std.proofs.Common.{◌≡◌, ℕ, zero, suc, ◌+◌, ◌-◌, ◌*◌, ◌/◌, ◌<◌, ◌≤◌, ◌≢◌, inl, inr, Bool, true, false, cond, ltb, List, [], length, Option, Some, None, refl, sym, ap, subst, arith, ◌∙◌, length-append}
+use Rattle.std.proofs.Common.{◌≡◌, ℕ, zero, suc, ◌+◌, ◌-◌, ◌*◌, ◌/◌, ◌≤◌, ◌≢◌, inl, inr, Bool, true, cond, ltb, List, [], length, Option, Some, None, refl, sym, ap, subst, arith, ◌∙◌, length-append}
 use Rattle.std.proofs.lemmas.Bool.Decides.{leb_tells}
 use Rattle.plan_machine.specs.declared.entry.Phase.{Phase}
 use Rattle.plan_machine.specs.declared.entry.Phase.TheVariants.{Emitting, Folding, Streaming, Tailing, Sealed, Done}
@@ -9,6 +9,7 @@ use Rattle.plan_machine.specs.Plan.{Plan, Node, IsNode, streams_from}
 use Rattle.plan_machine.specs.State.{State, Task, tail_rows}
 use Rattle.plan_machine.specs.WellFormed.{Streams, Lawful, WellFormed, IsInput}
 use Rattle.plan_machine.specs.Bound.{gives}
+use Rattle.plan_machine.proofs.Sums.{sum_changed}
 use Rattle.plan_machine.proofs.Weigh.{weigh-append, weigh-one, same_or, upd-here, upd-else}
 use Rattle.plan_machine.proofs.Same.{rows_test}
 use Rattle.plan_machine.proofs.Pieces.{pieces_from, weigh-pieces_from}
@@ -41,30 +42,12 @@ sum-change (suc n) a f g l m e =
           omega arith
     ]
 
--- none of these is changed
-sum-upd-same : {A : Type 0} (n a : ℕ) (F : ℕ → A → ℕ) (w : ℕ → A) (x : A) → n < a → sum_to n (λ j. F j (upd w a x j)) ≡ sum_to n (λ j. F j (w j))
-sum-upd-same zero a F w x l = refl
-sum-upd-same (suc n) a F w x l =
-    let r = sum-upd-same n a F w x (omega arith) in
-    let z = ap (F (suc n)) (upd-else w a x (suc n) (λ s. absurd (omega arith))) in
-    omega arith
-
 -- one value is changed
 pub sum-upd : {A : Type 0} (n a : ℕ) (F : ℕ → A → ℕ) (w : ℕ → A) (x : A) → 1 ≤ a → a ≤ n → sum_to n (λ j. F j (upd w a x j)) + F a (w a) ≡ sum_to n (λ j. F j (w j)) + F a x
-sum-upd zero a F w x l m = absurd (omega arith)
-sum-upd (suc n) a F w x l m =
-    elim (same_or a (suc n)) [
-      | inl q ↦
-          let r = sum-upd-same n a F w x (omega arith) in
-          let y = ap (λ k. F k (upd w a x k)) (sym q) in
-          let y' = ap (F a) (upd-here w a x) in
-          let z = ap (λ k. F k (w k)) q in
-          omega arith
-      | inr q ↦
-          let r = sum-upd n a F w x l (omega arith) in
-          let z = ap (F (suc n)) (upd-else w a x (suc n) (λ s. q (sym s))) in
-          omega arith
-    ]
+sum-upd n a F w x l m =
+    let r = sum_changed n (λ j. F j (w j)) (λ j. F j (upd w a x j)) a l m (λ j ne. ap (F j) (upd-else w a x j ne)) in
+    let y = ap (F a) (upd-here w a x) in
+    omega arith
 
 -- the rows of a batch, counted
 abbrev pub size : {R : Type 0} → Batch R → ℕ
@@ -89,10 +72,6 @@ stage_cost q Streaming = cond (ltb 0 q) 1 3
 stage_cost q Tailing = 1
 stage_cost q Sealed = 1
 stage_cost q Done = 0
-
-pub less_cond : (b : Bool) (x y : ℕ) → x ≤ y → cond b x 0 ≤ cond b y 0
-less_cond true x y l = l
-less_cond false x y l = omega arith
 
 -- what is more for a node where more comes to it
 pub come-less : {R : Type 0} (v : Node R) (batch : ℕ) (q : Phase) (next : ℕ) (tail : List R) (sz gs gs' : ℕ) → (q ≡ Folding → v.streams ≡ true → gs' ≤ gs) → (q ≡ Streaming → gs' ≤ gs) → come_by v batch q next tail sz gs' ≤ come_by v batch q next tail sz gs

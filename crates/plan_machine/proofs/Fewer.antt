@@ -24,13 +24,14 @@ use Rattle.plan_machine.proofs.Pieces.{pieces_from}
 use Rattle.plan_machine.proofs.Value.{view, coming, future_by, future, joined_by, tails_by, all_folded}
 use Rattle.plan_machine.proofs.Pass.{true_or_false}
 use Rattle.plan_machine.proofs.Turn.{streams_input, folds_input}
+use Rattle.plan_machine.proofs.Meanings.{meaning-is}
 use Rattle.plan_machine.proofs.Moved.{Sound}
 use Rattle.plan_machine.proofs.Claims.{claim-moved}
 use Rattle.plan_machine.proofs.Deliveries.{drop-moved, landed-moved, new_of}
 use Rattle.plan_machine.proofs.Ends.{finish-moved, paused-moved}
 use Rattle.plan_machine.proofs.Folded.{Folded}
 use Rattle.plan_machine.proofs.Stops.{kept-future, phase-same, waiting-same, phase-done, input_on, input_below, fetch}
-use Rattle.plan_machine.proofs.Opening.{opens, meaning-is}
+use Rattle.plan_machine.proofs.Opening.{opens}
 use Rattle.plan_machine.proofs.Steps.{Good, step, delivered-is, good-opening, claimed-failed, delivered-failed, failed-stays}
 use Rattle.plan_machine.proofs.Cost.{sum-less, sum-change, sum-upd, endings, size, come_by, stage_cost, come-less, outs, to_come, stage_of, edge_by, edge_of, task_cost, tasks_cost, total, spent}
 use Rattle.plan_machine.proofs.Spends.{stage-left, claim-spends, drop-spends, landed-spends, finish-spends, pause-spends, resume-spends}
@@ -215,7 +216,7 @@ module _ {R : Type 0} (P : Plan R) (L : Lawful P) (W : WellFormed P) where
         let c = weigh-one (meaning_within P k n) in
         let d : (k - n) + n ≡ k = omega arith in
         let e = ap (λ j. length (meaning_within P j n)) d in
-        let f = ap length (meaning-is P L W (k - n) n i) in
+        let f = ap length (meaning-is P W (k - n) n i) in
         let g = B.of_rows n (i.0, l) in
         omega arith
 

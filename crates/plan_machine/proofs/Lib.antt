@@ -13,6 +13,7 @@ pub mod Deliveries
 pub mod Ends
 pub mod Folded
 pub mod Stops
+pub mod Meanings
 pub mod Opening
 pub mod Steps
 pub mod Kept

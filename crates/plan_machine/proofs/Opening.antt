@@ -1,10 +1,10 @@
 -- What each node gives from the opening state on is its meaning.
-use Rattle.std.proofs.Common.{◌≡◌, ℕ, zero, suc, ◌+◌, ◌<◌, ◌≤◌, inl, inr, Bool, true, false, cond, List, [], ◌∷◌, ◌++◌, map, refl, sym, ap, ap₂, subst, arith, ◌∙◌, append-nil}
+use Rattle.std.proofs.Common.{◌≡◌, ℕ, zero, suc, ◌<◌, ◌≤◌, inl, inr, Bool, true, false, cond, List, [], ◌∷◌, ◌++◌, map, refl, sym, ap, subst, arith, ◌∙◌, append-nil}
 use Rattle.plan_machine.specs.Lists.{weigh}
 use Rattle.plan_machine.specs.Batch.{Batch, key, key_of, rows_of, gathered, marked}
 use Rattle.plan_machine.specs.Plan.{Plan, Node, IsNode, IsSource, Folds, IsJoin, OnlyStreams, folds_from}
 use Rattle.plan_machine.specs.State.{State, on_node, opening}
-use Rattle.plan_machine.specs.Meaning.{SameRows, SameSet, whole_by, whole, meaning_within, meaning}
+use Rattle.plan_machine.specs.Meaning.{SameRows, SameSet, whole, meaning_within, meaning}
 use Rattle.plan_machine.specs.WellFormed.{Lawful, WellFormed, IsInput}
 use Rattle.plan_machine.proofs.Weigh.{weigh-append, weigh-map, weigh-same, weigh-rows, flat, gather-nil}
 use Rattle.plan_machine.proofs.Sorting.{weigh-gathered}
@@ -12,6 +12,7 @@ use Rattle.plan_machine.proofs.Same.{IsDistinct, SameRows-trans, SameRows-weigh,
 use Rattle.plan_machine.proofs.Pieces.{pieces_from, gathered-pieces, pieces-distinct, weigh-pieces_from, gathered-map, map-distinct, part-weigh}
 use Rattle.plan_machine.proofs.Value.{whole_of, View, Coming, all_folded, all_streamed, base_by, tails_by, joined_by, view, coming, gives_of, holds_of, future_by, future_with, future, answer}
 use Rattle.plan_machine.proofs.Pass.{true_or_false, fold_kept}
+use Rattle.plan_machine.proofs.Meanings.{whole-source, whole-streams, whole-join, whole-folds, meaning-more}
 use Rattle.plan_machine.proofs.Turn.{folds_input, streams_input, AllDistinct}
 use Rattle.plan_machine.proofs.Flight.{flying}
 
@@ -49,60 +50,6 @@ module _ {R : Type 0} (P : Plan R) (L : Lawful P) (W : WellFormed P) where
   given0 : (n : ℕ) → (view P s0 n).given ≡ []
   given0 n = ap (flat (gives_of P)) (none_flying n)
 
-  -- what a node means, from its inputs
-  whole-source : (n : ℕ) (x y : List R) → IsSource (P.node n) → whole (P.node n) x y ≡ (P.node n).table
-  whole-source n x y e = ap (λ q. whole_by (P.node n) q x y) e
-
-  whole-streams : (n : ℕ) (x y : List R) → OnlyStreams (P.node n) → whole (P.node n) x y ≡ (P.node n).part [] x
-  whole-streams n x y e = ap (λ q. whole_by (P.node n) q x y) e
-
-  whole-join : (n : ℕ) (x y : List R) → IsJoin (P.node n) → whole (P.node n) x y ≡ (P.node n).part y x ++ cond (P.node n).tails ((P.node n).rest y x) []
-  whole-join n x y j =
-      ap (λ q. whole_by (P.node n) q x y) j.0
-      ∙ ap (λ c. cond c ((P.node n).part y x ++ cond (P.node n).tails ((P.node n).rest y x) []) (cond (P.node n).tails ((P.node n).rest x []) x)) j.1
-
-  whole-folds : (n : ℕ) (x y : List R) → Folds (P.node n) → (P.node n).streams ≡ false → whole (P.node n) x y ≡ cond (P.node n).tails ((P.node n).rest x []) x
-  whole-folds n x y f e =
-      ap (λ q. whole_by (P.node n) q x y) f
-      ∙ ap (λ c. cond c ((P.node n).part y x ++ cond (P.node n).tails ((P.node n).rest y x) []) (cond (P.node n).tails ((P.node n).rest x []) x)) e
-
-  -- the same inputs mean the same
-  whole-same : (n : ℕ) → IsNode P n → (m m' : ℕ → List R) → ((e : ℕ) → IsInput P n e → m e ≡ m' e) → whole (P.node n) (m (P.node n).first) (m (P.node n).second) ≡ whole (P.node n) (m' (P.node n).first) (m' (P.node n).second)
-  whole-same n i m m' e =
-      elim (W.nodes n i).starts [
-        | inl s ↦ whole-source n (m (P.node n).first) (m (P.node n).second) s ∙ sym (whole-source n (m' (P.node n).first) (m' (P.node n).second) s)
-        | inr s ↦ elim s [
-          | inl f ↦
-              let a = e (P.node n).first ((W.nodes n i).first (λ z. let y = sym f ∙ z in cc)) in
-              elim (true_or_false (P.node n).streams) [
-                | inl j ↦ let b = e (P.node n).second ((W.nodes n i).second (f, j)) in ap₂ (whole (P.node n)) a b
-                | inr j ↦
-                    whole-folds n (m (P.node n).first) (m (P.node n).second) f j
-                    ∙ ap (λ x. cond (P.node n).tails ((P.node n).rest x []) x) a
-                    ∙ sym (whole-folds n (m' (P.node n).first) (m' (P.node n).second) f j)
-              ]
-          | inr o ↦
-              let a = e (P.node n).first ((W.nodes n i).first (λ z. let y = sym o ∙ z in cc)) in
-              whole-streams n (m (P.node n).first) (m (P.node n).second) o
-              ∙ ap ((P.node n).part []) a
-              ∙ sym (whole-streams n (m' (P.node n).first) (m' (P.node n).second) o)
-        ]
-      ]
-
-  -- the nodes on the way are enough
-  pub meaning-more : (k n : ℕ) → IsNode P n → n ≤ k → meaning_within P k n ≡ meaning_within P (suc k) n
-  unfolding meaning_within
-  meaning-more zero n i l = absurd (let z = i.0 in omega arith)
-  meaning-more (suc k) n i l =
-      whole-same n i (meaning_within P k) (meaning_within P (suc k))
-      (λ e p. meaning-more k e (p.node, (let z = p.before in let y = i.1 in omega arith)) (let z = p.before in omega arith))
-
-  pub meaning-is : (d n : ℕ) → IsNode P n → meaning_within P (d + n) n ≡ meaning P n
-  meaning-is zero n i = ap (λ k. meaning_within P k n) (let e : 0 + n ≡ n = omega arith in e)
-  meaning-is (suc d) n i =
-      ap (λ k. meaning_within P k n) (let e : suc d + n ≡ suc (d + n) = omega arith in e)
-      ∙ sym (meaning-more (d + n) n i (omega arith)) ∙ meaning-is d n i
-
   -- What node n gives from the opening state on means what the node means, and where order is kept its
   -- batches have different indexes.
   abbrev Opens : ℕ → List (Batch R) → List R → Type 0
@@ -135,7 +82,7 @@ module _ {R : Type 0} (P : Plan R) (L : Lawful P) (W : WellFormed P) where
     opens-source e =
         along n _ (pieces_from v.kept P.batch v.table 0) _ v.table
         (ap (λ q. future_by v P.batch q V C) e ∙ ap (λ (g : List (Batch R)). g ++ pieces_from v.kept P.batch v.table 0) (given0 n))
-        (whole-source n (m v.first) (m v.second) e)
+        (whole-source P n (m v.first) (m v.second) e)
         (pieces-open n v.table)
 
     opens-streams : OnlyStreams (P.node n) → Opens n (future_with P s0 f n) (whole v (m v.first) (m v.second))
@@ -148,7 +95,7 @@ module _ {R : Type 0} (P : Plan R) (L : Lawful P) (W : WellFormed P) where
         ∙ ap (λ (g : List (Batch R)). g ++ (map (whole_of v []) (f v.first) ++ cond v.tails T [])) (given0 n)
         ∙ ap (λ c. map (whole_of v []) (f v.first) ++ cond c T []) ((W.nodes n i).plain st)
         ∙ append-nil (map (whole_of v []) (f v.first)))
-        (whole-streams n (m v.first) (m v.second) st) (
+        (whole-streams P n (m v.first) (m v.second) st) (
           streamed-opens v.kept (P.node v.first).kept (whole_of v []) (v.part []) ((W.nodes n i).in_order st) ((L.nodes n i).part_nil (inl st) []) ((L.nodes n i).part_append (inl st) [])
               (λ x. refl) (λ k x. marked-key true refl v k [] x) (f v.first) (m v.first) x.0,
           λ k. map-distinct (whole_of v []) (λ x. marked-key true refl v k [] x) (f v.first) (x.1 ((W.nodes n i).in_order st k)),
@@ -167,7 +114,7 @@ module _ {R : Type 0} (P : Plan R) (L : Lawful P) (W : WellFormed P) where
         ∙ ap (λ c. cond c (joined_by v P.batch (gathered (all_folded V C)) C) (tails_by v P.batch (gathered (all_folded V C)) [])) j
         ∙ ap (λ c. cond c (pieces_from v.kept P.batch (v.rest (gathered (all_folded V C)) []) 0) []) tl
         ∙ ap (λ (z : List (Batch R)). pieces_from v.kept P.batch (v.rest (gathered z) []) 0) folds-all)
-        (whole-folds n (m v.first) (m v.second) fo j ∙ ap (λ c. cond c (v.rest (m v.first) []) (m v.first)) tl ∙ ap (λ k. v.rest (m k) []) (sym e))
+        (whole-folds P n (m v.first) (m v.second) fo j ∙ ap (λ c. cond c (v.rest (m v.first) []) (m v.first)) tl ∙ ap (λ k. v.rest (m k) []) (sym e))
         (SameRows-trans v.kept _ _ _ y.0 s, y.1)
 
     opens-join : IsJoin (P.node n) → Opens n (future_with P s0 f n) (whole v (m v.first) (m v.second))
@@ -184,7 +131,7 @@ module _ {R : Type 0} (P : Plan R) (L : Lawful P) (W : WellFormed P) where
         (ap (λ q. future_by v P.batch q V C) j.0
         ∙ ap (λ c. cond c (joined_by v P.batch (gathered (all_folded V C)) C) (tails_by v P.batch (gathered (all_folded V C)) [])) j.1
         ∙ ap (λ (z : List (Batch R)). map (whole_of v (gathered z)) (f v.first) ++ tails_by v P.batch (gathered z) (rows_of (f v.first))) folds-all)
-        (whole-join n (m v.first) (m v.second) j ∙ ap (λ k. v.part (m k) (m v.first) ++ cond v.tails (v.rest (m k) (m v.first)) []) (sym e)) (
+        (whole-join P n (m v.first) (m v.second) j ∙ ap (λ k. v.part (m k) (m v.first) ++ cond v.tails (v.rest (m k) (m v.first)) []) (sym e)) (
           subst (λ (c : Bool). SameRows c (gathered (map (whole_of v b) (f v.first) ++ tails_by v P.batch b (rows_of (f v.first)))) (v.part y (m v.first) ++ cond v.tails (v.rest y (m v.first)) [])) (sym loose)
               (λ h.
               let g : SameRows false (gathered (map (whole_of v b) (f v.first))) (v.part b (m v.first)) =
@@ -241,7 +188,7 @@ module _ {R : Type 0} (P : Plan R) (L : Lawful P) (W : WellFormed P) where
   sink_whole =
       let x : List R = meaning_within P P.sink (P.node P.sink).first in
       let y : List R = meaning_within P P.sink (P.node P.sink).second in
-      whole-folds P.sink x y W.sink.folds W.sink.only_folds.0 ∙ ap (λ c. cond c ((P.node P.sink).rest x []) x) W.sink.only_folds.1
+      whole-folds P P.sink x y W.sink.folds W.sink.only_folds.0 ∙ ap (λ c. cond c ((P.node P.sink).rest x []) x) W.sink.only_folds.1
 
   -- the sink will have the rows of the plan's meaning
   pub answer-opening : SameRows (fold_kept P L W P.sink) (answer P s0) (meaning P P.sink)
@@ -256,5 +203,5 @@ module _ {R : Type 0} (P : Plan R) (L : Lawful P) (W : WellFormed P) where
       ap (λ q. base_by q (view P s0 P.sink) (coming P s0 (future P P.sink s0) P.sink)) W.sink.folds
       ∙ ap (gathered {R = R}) (folds-all (future P P.sink s0) (meaning_within P P.sink) P.sink i below) in
       let ee : e ≡ (P.node P.sink).first = ap (λ c. cond c (P.node P.sink).second (P.node P.sink).first) W.sink.only_folds.0 in
-      let b : meaning P P.sink ≡ meaning_within P P.sink e = meaning-more P.sink P.sink i (omega arith) ∙ sink_whole ∙ ap (meaning_within P P.sink) (sym ee) in
+      let b : meaning P P.sink ≡ meaning_within P P.sink e = meaning-more P W P.sink P.sink i (omega arith) ∙ sink_whole ∙ ap (meaning_within P P.sink) (sym ee) in
       SameRows-trans (fold_kept P L W P.sink) _ _ _ (SameRows-equal _ _ _ a) (SameRows-trans (fold_kept P L W P.sink) _ _ _ x.0 (SameRows-equal _ _ _ (sym b)))

@@ -28,9 +28,6 @@ module _ {R : Type 0} where
   pub Same-trans : (kept : Bool) (a b c : List (Batch R)) → Same kept a b → Same kept b c → Same kept a c
   Same-trans kept a b c s t H q = s H q ∙ t H q
 
-  pub Same-sym : (kept : Bool) (a b : List (Batch R)) → Same kept a b → Same kept b a
-  Same-sym kept a b s H q = sym (s H q)
-
   pub cond-same : (kept b : Bool) (x x' y y' : List (Batch R)) → (b ≡ true → Same kept x x') → (b ≡ false → Same kept y y') → Same kept (cond b x y) (cond b x' y')
   cond-same kept true x x' y y' f g = f refl
   cond-same kept false x x' y y' f g = g refl

@@ -6,7 +6,7 @@ use Rattle.plan_machine.specs.Batch.{Batch, key, rows_of, gathered, has_key, row
 use Rattle.plan_machine.specs.Meaning.{SameRows, SameSet}
 use Rattle.plan_machine.specs.WellFormed.{Equality}
 use Rattle.plan_machine.proofs.Weigh.{weigh-rows}
-use Rattle.plan_machine.proofs.Sorting.{gathered-all, front-like, weigh-gathered}
+use Rattle.plan_machine.proofs.Sorting.{gathered-all, front-same, weigh-gathered}
 
 -- What may be asked of a list of batches: anything where their order is kept, and else a weight of rows.
 abbrev pub IsTest : {R : Type 0} → Bool → (Batch R → ℕ) → Type 0
@@ -61,15 +61,6 @@ module _ {R : Type 0} where
   pub Same-refl : (kept : Bool) (xs : List (Batch R)) → Same kept xs xs
   Same-refl kept xs H t = refl
 
-  pub Same-equal : (kept : Bool) (xs ys : List (Batch R)) → xs ≡ ys → Same kept xs ys
-  Same-equal kept xs ys e H t = ap (weigh H) e
-
-  pub Same-looser : (kept loose : Bool) (xs ys : List (Batch R)) → (loose ≡ true → kept ≡ true) → Same kept xs ys → Same loose xs ys
-  Same-looser true loose xs ys o s H t = s H tt
-  Same-looser false false xs ys o s H t = s H t
-  Same-looser false true xs ys o s H t = let e = o refl in cc
-
-  -- the index of a test: where order is kept, what is asked of all batches with one index
   pub Same-rows : (kept : Bool) (xs ys : List (Batch R)) → Same kept xs ys → (h : R → ℕ) → weigh h (rows_of xs) ≡ weigh h (rows_of ys)
   Same-rows kept xs ys s h =
       let a = rows_weigh xs in
@@ -194,7 +185,7 @@ module _ {R : Type 0} (E : Equality R) where
   gathered-same true xs ys s d =
       let K : ℕ = suc (weigh key xs) in
       let w = s key tt in
-      gathered-all K xs (omega arith) ∙ front-like K xs ys (λ i _. rows_at-same i xs ys s (d refl i)) ∙ sym (gathered-all K ys (omega arith))
+      gathered-all K xs (omega arith) ∙ front-same K xs ys (λ i _. rows_at-same i xs ys s (d refl i)) ∙ sym (gathered-all K ys (omega arith))
   gathered-same false xs ys s d = λ h.
       let a = weigh-gathered h xs in
       let b = weigh-gathered h ys in

@@ -118,7 +118,7 @@ module _ {R : Type 0} where
   keep-front (suc k) xs o =
       keep-front k xs o ∙ ap (λ (t : List R). front k xs ++ t) (keep-next k xs o) ∙ sym (append_assoc (front k xs) (rows_at k xs) (rows_of (keep (suc k) xs)))
 
-  front-same : (k : ℕ) (xs ys : List (Batch R)) → ((i : ℕ) → i < k → rows_at i xs ≡ rows_at i ys) → front k xs ≡ front k ys
+  pub front-same : (k : ℕ) (xs ys : List (Batch R)) → ((i : ℕ) → i < k → rows_at i xs ≡ rows_at i ys) → front k xs ≡ front k ys
   front-same zero xs ys e = refl
   front-same (suc k) xs ys e =
       let a = front-same k xs ys (λ i l. e i (omega arith)) in
@@ -153,6 +153,3 @@ module _ {R : Type 0} where
       let s = weigh-sort key xs in
       let n : keep k (sort_batches xs) ≡ [] = keep-none k (sort_batches xs) (omega arith) in
       gathered-front k xs ∙ rw n (append-nil (front k xs))
-
-  pub front-like : (k : ℕ) (xs ys : List (Batch R)) → ((i : ℕ) → i < k → rows_at i xs ≡ rows_at i ys) → front k xs ≡ front k ys
-  front-like = front-same

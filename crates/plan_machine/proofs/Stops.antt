@@ -14,7 +14,7 @@ use Rattle.plan_machine.specs.Enabled.{CanStop, front}
 use Rattle.plan_machine.specs.After.{leads, below, stopped}
 use Rattle.plan_machine.specs.WellFormed.{Lawful, WellFormed, IsInput}
 use Rattle.plan_machine.proofs.Weigh.{weigh-append, weigh-flat, same_or, flat}
-use Rattle.plan_machine.proofs.Sorting.{gathered-front, front-like, later}
+use Rattle.plan_machine.proofs.Sorting.{gathered-front, front-same, later}
 use Rattle.plan_machine.proofs.Same.{Same, IsDistinct, IsDistinct-same, SameRows-equal, none_there}
 use Rattle.plan_machine.proofs.Value.{View, all_folded, base_by, future_by, tails_by, joined_by, view, coming, holds_of, holds_by, future, future_with, answer}
 use Rattle.plan_machine.proofs.Pass.{true_or_false, fold_kept, Arrives, base-passed, future-passed, all_folded-same, tails-same}
@@ -28,10 +28,6 @@ and_false a e b = rw e refl
 
 and_true : (a : Bool) → a ≡ true → (b : Bool) → (a && b) ≡ b
 and_true a e b = rw e refl
-
-or_false : (a b : Bool) → (a || b) ≡ false → (a ≡ false) × (b ≡ false)
-or_false true b e = cc
-or_false false b e = (refl, e)
 
 module _ {R : Type 0} where
   rows_at-append : (i : ℕ) (xs ys : List (Batch R)) → rows_at i (xs ++ ys) ≡ rows_at i xs ++ rows_at i ys
@@ -267,8 +263,8 @@ module _ {R : Type 0} (P : Plan R) (L : Lawful P) (W : WellFormed P) where
       rest-same zs =
           let u : ℕ = can.front.upto in
           let h : List (Batch R) = (view P s n).held in
-          let a : front u all ≡ front u h = front-like u all h held-front in
-          let b : front u all' ≡ front u h = front-like u all' h (λ j _. held-after j) in
+          let a : front u all ≡ front u h = front-same u all h held-front in
+          let b : front u all' ≡ front u h = front-same u all' h (λ j _. held-after j) in
           let c = front-longer u (s.folded n) h folded-held in
           let d = can.front.enough in
           let e = (L.nodes n i).fetch_wants can.wanted can.is_fetch (front u h) (later u all) (later u all') zs (omega arith) in

@@ -6,10 +6,16 @@ use Rattle.plan_machine.specs.Plan.{Plan, IsNode, IsEdge, IsWorker, IsJoin}
 use Rattle.plan_machine.specs.State.{NothingInFlight, opening}
 use Rattle.plan_machine.specs.History.{IsHistory, state_after, IsEnded, peak, result_rows}
 use Rattle.plan_machine.specs.Driver.{NoUpkeep, CanWork}
-use Rattle.plan_machine.specs.Meaning.{SameRows, meaning}
+use Rattle.plan_machine.specs.Meaning.{SameRows, whole, meaning}
 use Rattle.plan_machine.specs.WellFormed.{Lawful, WellFormed}
 use Rattle.plan_machine.specs.Bound.{load}
 use Rattle.plan_machine.specs.Budget.{IsBudget, most}
+
+-- The meaning of each node is made of the meanings of its inputs.
+abbrev pub MeaningIsWhole : Type 0 → Type 0
+MeaningIsWhole R =
+    (P : Plan R) → WellFormed P → (n : ℕ) → IsNode P n
+    → meaning P n ≡ whole (P.node n) (meaning P (P.node n).first) (meaning P (P.node n).second)
 
 -- Rows are kept: whatever the workers did in whatever order, a run that has ended has the rows of the
 -- plan's meaning, in the same order where the sink keeps it, and each as often in any case.

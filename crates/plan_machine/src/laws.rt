@@ -1,7 +1,12 @@
-// What holds of every history of every plan. Each law is a function that does nothing: its contract is
-// the law, proved for rows of any type.
+// What a plan means, and what holds of every history of it. Each law is a function that does nothing: its
+// contract is the law, proved for rows of any type.
 
-ghost use Rattle.plan_machine.specs.Laws.{RowsKept, NoMoreEntries};
+ghost use Rattle.plan_machine.specs.Laws.{MeaningIsWhole, NoMoreEntries, RowsKept};
+
+/// The meaning of each node, over whole tables, is made of the meanings of its inputs.
+pub fn meaning_is_whole<R>()
+    ensures { MeaningIsWhole R }
+{}
 
 /// Rows are kept: whatever the workers do, in whatever order, a run that ends gives the rows of the
 /// plan's meaning over whole tables. They are in the same order where the sink keeps it, and each row
