@@ -20,7 +20,8 @@ make_table() {
     }'
 }
 
-# Prints the seconds and the greatest number of kilobytes in memory of one run.
+# Prints the seconds and the greatest number of kilobytes in memory of one run, at least the 14,000 or so that
+# starting it takes.
 measure() {
     python3 - "$program" "$folder/s.R" "t=$1" <<'PYTHON'
 import resource, subprocess, sys, time
