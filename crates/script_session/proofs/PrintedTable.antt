@@ -1,15 +1,13 @@
 -- A first table that is printed is read as that table.
-use Rattle.std.proofs.Common.{◌≡◌, ℕ, pos, negsuc, ◌<◌, ◌≤◌, ◌+◌, ◌-◌, ◌^◌, suc, Bool, true, false, not, ◌&&◌, ◌||◌, ◌==◌, nat_eq, nat_lt, List, [], ◌∷◌, ◌++◌, length, map, Option, Some, codes, refl, sym, ap, ◌∙◌, subst, arith, append_assoc, append-nil, decimal}
-use Rattle.std.specs.List.{AllByRecursion as Each, slice_split, join_with_byte, flat_map, starts_with}
+use Rattle.std.proofs.Common.{◌≡◌, ℕ, pos, negsuc, ◌<◌, ◌≤◌, ◌+◌, ◌-◌, ◌^◌, suc, true, false, ◌==◌, nat_eq, nat_lt, List, [], ◌∷◌, ◌++◌, length, map, Option, Some, codes, refl, sym, ap, ◌∙◌, subst, arith, append_assoc, append-nil, decimal}
+use Rattle.std.specs.List.{AllByRecursion as Each, join_with_byte, flat_map, starts_with}
 use Rattle.std.specs.Str.{all_ascii_digits, bytes_eq}
 use Rattle.std.specs.Str.Parse.{digits_value}
-use Rattle.std.specs.Int.{is_in_range}
 use Rattle.std.specs.Char.{is_ascii_digit}
-use Rattle.std.proofs.lemmas.Bool.{lt-ltb, le-leb, eq-eqb, ne_eqb, both_ways, and_parts, and_from}
+use Rattle.std.proofs.lemmas.Bool.{lt-ltb, le-leb, eq-eqb, ne_eqb, both_ways, and_parts}
 use Rattle.std.proofs.lemmas.Fmt.{digits_decimal, digits_value-decimal, decimal_nonempty}
-use Rattle.std.proofs.lemmas.List.{length-append, take_at, drop_at, get_or_at}
-use Rattle.std.proofs.lemmas.List.Elements.{recursion_from_All, All-from_recursion}
-use Rattle.std.proofs.lemmas.List.Splits.{slice_split_none, slice_split_at}
+use Rattle.std.proofs.lemmas.List.{length-append, take_at, drop_at}
+use Rattle.std.proofs.lemmas.List.Elements.{recursion_from_All}
 use Rattle.std.proofs.lemmas.Str.Parse.{IsNumeralModel, numerals_by_value, tells_all_ascii_digits}
 use Rattle.scalar_value.specs.declared.value.Value.{Value}
 use Rattle.scalar_value.specs.declared.value.Value.TheVariants.{Missing, Int, Dec, Chr, Day, Lgl}
@@ -17,9 +15,8 @@ use Rattle.scalar_value.specs.declared.value.ColType.TheVariants as kind
 use Rattle.row_table.specs.declared.field.Field.{Field}
 use Rattle.row_table.specs.Tables.{names_differ}
 use Rattle.script_session.specs.Steps.{each_some}
-use Rattle.script_session.specs.Names.{is_name, is_name_byte, all_bytes, starts_with_digit}
+use Rattle.script_session.specs.Names.{is_name, is_name_byte, all_bytes}
 use Rattle.script_session.specs.Numbers.{number_below, int_of}
-use Rattle.script_session.specs.FirstScript.{ends_with_byte, without_last}
 use Rattle.script_session.specs.FirstTable.{field_of, value_of, row_of, header_of, lines_of, table_of_lines, first_table}
 use Rattle.script_session.specs.CsvText.{field_text, value_text, csv_text}
 use Rattle.script_session.proofs.SpelledBytes.{Lacks, lacks-append, apart, lacks_failing, all_digits, lacks-joined, split-joined, name_bytes, ends-last, before_last}

@@ -1,5 +1,5 @@
 -- A text that spells a first script is read as that script.
-use Rattle.std.proofs.Common.{◌≡◌, ℕ, ℤ, pos, neg_ℤ, ◌<◌, ◌+◌, ◌-◌, ◌^◌, zero, suc, Bool, true, false, cond, not, ◌==◌, nat_eq, nat_lt, IsTrue, List, [], ◌∷◌, ◌++◌, length, take, drop, replicate, ◌⊎◌, inl, inr, Some, None, codes, refl, sym, ap, ◌∙◌, subst, arith, append_assoc, append-nil, All}
+use Rattle.std.proofs.Common.{◌≡◌, ℕ, ℤ, pos, neg_ℤ, ◌<◌, ◌+◌, ◌^◌, zero, suc, Bool, true, false, cond, not, ◌==◌, nat_eq, nat_lt, IsTrue, List, [], ◌∷◌, ◌++◌, length, replicate, ◌⊎◌, inl, inr, Some, None, codes, refl, sym, ap, ◌∙◌, subst, arith, append_assoc, append-nil}
 use Rattle.std.specs.List.{AllByRecursion as Each, join_with_byte, flat_map, prefix_len, starts_with}
 use Rattle.std.specs.Cmp.Lexicographic.{pointwise, bytes_decides}
 use Rattle.std.specs.Char.{is_ascii_digit}
@@ -412,5 +412,5 @@ spelled_parts table column c z (name ∷ names) limit text t f some all l h =
     rw (opening, cond.1, chosen) refl
 
 pub spelled : SpelledIsRead
-spelled s limit text h l spells =
-    spelled_parts s.table s.column s.comparison s.limit s.chosen limit text h.table h.column h.some (recursion_from_All (λ name. IsTrue (is_free_name name)) s.chosen h.chosen) l spells
+spelled s text h g =
+    spelled_parts s.table s.column s.comparison s.limit s.chosen g.0 text h.table h.column h.some (recursion_from_All (λ name. IsTrue (is_free_name name)) s.chosen h.chosen) g.1 g.2

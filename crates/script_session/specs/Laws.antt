@@ -64,7 +64,11 @@ Spells (token ∷ []) text = (text ≡ token) ⊎ (text ≡ token ++ 10 ∷ [])
 Spells (token ∷ next ∷ tokens) text =
     (spaces : ℕ) × (rest : List ℕ) × (text ≡ token ++ (replicate spaces 32 ++ rest)) × IsApart token next spaces × Spells (next ∷ tokens) rest
 
--- its names are free, and it chooses a column
+-- the text spells the script, whose limit has one or two tokens
+abbrev pub SpellsScript : FirstScript → List ℕ → Type 0
+SpellsScript s text = (limit : List (List ℕ)) × AreLimit limit s.limit × Spells (tokens_of s limit) text
+
+-- A first script: what it names has free names, and it chooses one column or more.
 pub record IsFirstScript (s : FirstScript) : Type 0 where
   pub table : IsTrue (is_free_name s.table)
   pub column : IsTrue (is_free_name s.column)
@@ -73,8 +77,7 @@ pub record IsFirstScript (s : FirstScript) : Type 0 where
 
 -- a text that spells a first script is read as that script
 abbrev pub SpelledIsRead : Type 0
-SpelledIsRead =
-    (s : FirstScript) (limit : List (List ℕ)) (text : List ℕ) → IsFirstScript s → AreLimit limit s.limit → Spells (tokens_of s limit) text → first_script text ≡ Some s
+SpelledIsRead = (s : FirstScript) (text : List ℕ) → IsFirstScript s → SpellsScript s text → first_script text ≡ Some s
 
 -- ---- first tables
 
