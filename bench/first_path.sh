@@ -7,7 +7,7 @@ top=$(cd "$(dirname "$0")/.." && pwd)
 rows=${1:-2000000}
 folder=$(mktemp -d)
 trap 'rm -rf "$folder"' EXIT
-printf 't |> filter(x > 5) |> select(id, x)\n' >"$folder/s.R"
+printf 't |> filter(x > 500000) |> select(id, x)\n' >"$folder/s.R"
 
 # Makes sure that the program is built before it is timed; with no words it only answers that they are wrong.
 "$top/acero_run" 2>/dev/null || true
@@ -16,7 +16,7 @@ program=$top/crates/acero_run/out/acero_run
 make_table() {
     awk -v rows="$1" 'BEGIN {
         print "id:int,x:int"
-        for (i = 1; i <= rows; i++) print i "," (i % 7 == 0 ? "NA" : i % 11)
+        for (i = 1; i <= rows; i++) print i "," (i % 7 == 0 ? "NA" : (i * 48271) % 1000003)
     }'
 }
 

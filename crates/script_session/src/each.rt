@@ -25,14 +25,14 @@ pub fn read_each<R: ReadPiece>(
 ) -> Res<Seq<R::Item>, NotBuilt>
     ensures { GivesSome result (each_some (R.item reader.now) (map (λ x. x.now) pieces.now)) }
 {
-    let mut made = Seq::new(alloc);
+    let mut made = Vec::with_capacity(alloc, pieces.len())?;
     for piece in pieces {
         match reader.read(alloc, piece) {
             Ok(item) => made.push(item)?,
             Err(refusal) => return Err(refusal),
         }
     }
-    Ok(made)
+    Ok(Seq::of(made))
 }
 
 /// The pieces between the separators.

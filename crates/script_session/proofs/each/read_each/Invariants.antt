@@ -6,5 +6,5 @@ use Rattle.script_session.proofs.each.read_each.Given as goal
 
 abbrev pub invariant-loop-piece : goal.invariant-loop-piece
 invariant-loop-piece g l =
-    with_front l.made (each_some (g.R.ReadPiece.item l.reader) (map (λ (x : Bor (List ℕ)). x.now) (drop l.piece-index l.pieces)))
+    with_front l.made.items (each_some (g.R.ReadPiece.item l.reader) (map (λ (x : Bor (List ℕ)). x.now) (drop l.piece-index l.pieces)))
     ≡ each_some (g.R.ReadPiece.item l.reader) (map (λ (x : Bor (List ℕ)). x.now) l.pieces)
