@@ -1,0 +1,4 @@
+pub mod Ranges
+pub mod Division
+pub mod Digits
+pub mod Rounding
