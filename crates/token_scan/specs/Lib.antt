@@ -1,1 +1,7 @@
+pub mod Alphabet
+pub mod Numbers
+pub mod Pieces
 pub mod Spans
+pub mod Spelling
+pub mod Texts
+pub mod Tokens

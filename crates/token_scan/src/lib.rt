@@ -1,6 +1,14 @@
 //! The tokens of a script, with the bytes that each stands on, or its first fault; and a place as line and column.
 #![tactic(auto)]
 
+mod alphabet;
+mod name;
+mod number;
+mod piece;
+mod scanner;
+mod spelling;
+mod text;
 mod token;
 
+pub use scanner::scan;
 pub use token::{Oper, Place, Reserved, ScanFault, ScanKind, Token, TokenKind};
