@@ -1,3 +1,5 @@
 pub mod Cuts
 pub mod Digits
 pub mod Quotes
+pub mod Reaches
+pub mod Scanning

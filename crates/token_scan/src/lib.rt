@@ -5,10 +5,12 @@ mod alphabet;
 mod name;
 mod number;
 mod piece;
+mod place;
 mod scanner;
 mod spelling;
 mod text;
 mod token;
 
+pub use place::place_of;
 pub use scanner::scan;
 pub use token::{Oper, Place, Reserved, ScanFault, ScanKind, Token, TokenKind};
