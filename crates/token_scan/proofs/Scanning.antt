@@ -81,6 +81,11 @@ piece-reach at script P u cut e =
     let F : Piece → Type 0 = Reaches (drop at script) in
     subst F (sym e) (piece-reaches (drop at script) (IsUtf8-drop script at u cut))
 
+pub mark-cut : (at : ℕ) (bytes text : List ℕ) → IsUtf8 text → at ≡ mark_len bytes → bytes ≡ text → IsCharBoundary text at
+mark-cut at bytes text u e same =
+    let F : ℕ → Type 0 = IsCharBoundary text in
+    subst F (sym (e ∙ ap mark_len same)) (mark-boundary text u)
+
 -- the scan's start
 pub scan-starts : (at : ℕ) (tokens : List Token) (bytes script : List ℕ) → IsUtf8 script → at ≡ mark_len bytes → bytes ≡ script → tokens ≡ []
     → IsCharBoundary script at × AreInOrder 0 tokens at × (before tokens (tokens_from at 0 (drop at script)) ≡ tokens_of script)

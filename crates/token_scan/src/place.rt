@@ -1,5 +1,5 @@
-ghost use Rattle.std.specs.Prelude.{◌≡◌, ◌+◌, ◌≤◌, ◌^◌, length, count_by};
-ghost use Rattle.std.specs.List.{after_last};
+ghost use Rattle.std.specs.Prelude.{◌≡◌, ◌+◌, ◌≤◌, ◌^◌, length, count_by, not};
+ghost use Rattle.std.specs.List.{after_last, suffix_len};
 ghost use Rattle.std.specs.Str.{IsCharBoundary, chars};
 ghost use Rattle.token_scan.specs.Places.{is_line_feed, unmarked, place_at};
 
@@ -20,13 +20,19 @@ fn unmarked(text: &str) -> &str
     rest
 }
 
+// How many bytes stand behind the last line feed.
+fn len_in_line(bytes: &[u8]) -> usize
+    ensures value { result ≡ suffix_len (λ b. not (is_line_feed b)) bytes.now }
+    ensures within { result ≤ length bytes.now }
+{
+    bytes.iter().rev().take_while(|b| **b != b'\n').count()
+}
+
 fn last_line(text: &str) -> &str
     ensures value { result.now ≡ after_last is_line_feed text.now }
     ensures within { length result.now ≤ length text.now }
 {
-    let bytes = text.as_bytes();
-    let len = bytes.iter().rev().take_while(|b| **b != b'\n').count();
-    let (_, line) = text.split_at(bytes.len() - len);
+    let (_, line) = text.split_at(text.len() - len_in_line(text.as_bytes()));
     line
 }
 
