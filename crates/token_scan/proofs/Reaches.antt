@@ -12,7 +12,7 @@ use Rattle.std.specs.Char.{is_ascii_digit}
 use Rattle.std.proofs.lemmas.Bool.Decides.{nat_tests}
 use Rattle.std.proofs.lemmas.List.{get_or-drop, get_or-take, length-take}
 use Rattle.std.proofs.lemmas.List.Sums.{prefix_len-le-length, prefix_len_stops, prefix_len_passes}
-use Rattle.std.proofs.lemmas.Str.{IsCharBoundary-after_ascii, IsCharBoundary-end, IsCharBoundary-before_ascii, IsCharBoundary-from_rest, IsUtf8-drop}
+use Rattle.std.proofs.lemmas.Str.{IsCharBoundary-after_ascii, IsCharBoundary-start, IsCharBoundary-before_ascii, IsCharBoundary-from_rest, IsUtf8-drop}
 use Rattle.token_scan.specs.declared.piece.Piece.{Piece}
 use Rattle.token_scan.specs.declared.piece.Piece.TheVariants.{Passed, Made, Wrong}
 use Rattle.token_scan.specs.declared.token.TokenKind.{TokenKind}
@@ -24,11 +24,11 @@ use Rattle.token_scan.specs.Tokens.{piece_len}
 use Rattle.token_scan.proofs.Cuts.{cut-in_run, ascii-name_byte, ascii-digit, ascii-blank}
 use Rattle.token_scan.proofs.Quotes.{inside}
 
--- A piece that is passed over or a token has a byte, and the text may be cut behind it; a fault stands inside.
+-- A piece that is passed over or a token has a byte, and the text may be cut behind it; a fault stands at a character.
 abbrev pub Reaches : List ℕ → Piece → Type 0
 Reaches bs (Passed n) = (0 < n) × IsCharBoundary bs n
 Reaches bs (Made kind n) = (0 < n) × IsCharBoundary bs n
-Reaches bs (Wrong kind n) = n ≤ length bs
+Reaches bs (Wrong kind n) = IsCharBoundary bs n
 
 run-some : (p : ℕ → Bool) (bs : List ℕ) → p 0 ≡ false → p (get_or bs 0 0) ≡ true → 0 < prefix_len p bs
 run-some p [] none h = cc
@@ -52,9 +52,10 @@ in_line-stop b h = grind (arith, nat_tests)
 -- a comment ends at a line feed or with the script
 pub reaches-comment : (bs : List ℕ) → IsUtf8 bs → get_or bs 0 0 ≡ 35 → Reaches bs (Passed (prefix_len is_in_line bs))
 reaches-comment [] u h = cc
-reaches-comment (b ∷ bs) u h =
-    (rw h (omega arith),
-     (prefix_len-le-length is_in_line (b ∷ bs), λ lt high. absurd (omega (arith, in_line-stop _ (prefix_len_stops is_in_line (b ∷ bs) 0 lt)))))
+reaches-comment (b ∷ bs) u h = (
+  rw h (omega arith),
+  (prefix_len-le-length is_in_line (b ∷ bs), λ lt high. absurd (omega (arith, in_line-stop _ (prefix_len_stops is_in_line (b ∷ bs) 0 lt)))),
+)
 
 pub reaches-line : (bs : List ℕ) (kind : TokenKind) → IsUtf8 bs → get_or bs 0 0 ≡ 10 → Reaches bs (Made kind 1)
 reaches-line bs kind u h = (lit< tt, IsCharBoundary-after_ascii bs 0 u (inside bs 0 10 (lit< tt) h) (omega arith))
@@ -81,32 +82,32 @@ unfolding quoted_name
 reaches-quoted_name bs u =
     let n = prefix_len is_quotable (drop 1 bs) in
     reaches-cond bs (get_or (drop 1 bs) n 0 == 96) _ (Wrong OpenText 0)
-    (λ h. reaches-cond bs (n == 0) (Wrong BadChar 0) _ (λ e. omega arith) (λ e. (omega arith, closing-boundary n bs u (same _ 96 h))))
-    (λ h. omega arith)
+    (λ h. reaches-cond bs (n == 0) (Wrong BadChar 0) _ (λ e. IsCharBoundary-start bs u) (λ e. (omega arith, closing-boundary n bs u (same _ 96 h))))
+    (λ h. IsCharBoundary-start bs u)
 
--- A text's last byte is its closing quote; a wrong escape stands inside.
+-- A text's last byte is its closing quote; a wrong escape begins with a backslash.
 abbrev Closes : ℕ → List ℕ → Quoted → Type 0
 Closes q bs (closed text n) = (0 < n) × (n ≤ length bs) × (get_or bs (n - 1) 0 ≡ q)
-Closes q bs (wrong at) = at < length bs
+Closes q bs (wrong at) = (at < length bs) × (get_or bs at 0 ≡ 92)
 Closes q bs open_end = Unit {0}
 
 closes-behind : (q b byte : ℕ) (bs : List ℕ) (r : Quoted) → Closes q bs r → Closes q (b ∷ bs) (behind byte 1 r)
 closes-behind q b byte bs (closed text n) h =
     let e : 1 + n - 1 ≡ suc (n - 1) = omega (arith, h.0) in
     (omega arith, omega (arith, h.1), rw e h.2)
-closes-behind q b byte bs (wrong at) h = omega (arith, h)
+closes-behind q b byte bs (wrong at) h = let e : 1 + at ≡ suc at = omega arith in (omega (arith, h.0), rw e h.1)
 closes-behind q b byte bs open_end h = tt
 
 closes-escape : (q b c byte : ℕ) (bs : List ℕ) (r : Quoted) → Closes q bs r → Closes q (b ∷ c ∷ bs) (behind byte 2 r)
 closes-escape q b c byte bs (closed text n) h =
     let e : 2 + n - 1 ≡ suc (suc (n - 1)) = omega (arith, h.0) in
     (omega arith, omega (arith, h.1), rw e h.2)
-closes-escape q b c byte bs (wrong at) h = omega (arith, h)
+closes-escape q b c byte bs (wrong at) h = let e : 2 + at ≡ suc (suc at) = omega arith in (omega (arith, h.0), rw e h.1)
 closes-escape q b c byte bs open_end h = tt
 
-closes-behind_escape : (q b c : ℕ) (bs : List ℕ) (o : Option ℕ) (r : Quoted) → Closes q bs r → Closes q (b ∷ c ∷ bs) (behind_escape o r)
-closes-behind_escape q b c bs (Some byte) r h = closes-escape q b c byte bs r h
-closes-behind_escape q b c bs None r h = omega arith
+closes-behind_escape : (q b c : ℕ) (bs : List ℕ) (o : Option ℕ) (r : Quoted) → b ≡ 92 → Closes q bs r → Closes q (b ∷ c ∷ bs) (behind_escape o r)
+closes-behind_escape q b c bs (Some byte) r e h = closes-escape q b c byte bs r h
+closes-behind_escape q b c bs None r e h = (omega arith, e)
 
 closes-cond : (q : ℕ) (bs : List ℕ) (b : Bool) (P Q : Quoted) → (b ≡ true → Closes q bs P) → (b ≡ false → Closes q bs Q) → Closes q bs (cond b P Q)
 closes-cond q bs true P Q yes_ no_ = yes_ refl
@@ -121,7 +122,7 @@ quoted-closes_at q [] = tt
 quoted-closes_at q (b ∷ []) = closes-cond q (b ∷ []) (b == q) (closed [] 1) open_end (closes-here q b []) (λ h. tt)
 quoted-closes_at q (b ∷ c ∷ bs) =
     closes-cond q (b ∷ c ∷ bs) (b == q) (closed [] 1) _ (closes-here q b (c ∷ bs))
-    (λ h. closes-cond q (b ∷ c ∷ bs) (b == 92) _ _ (λ e. closes-behind_escape q b c bs (escaped c) (quoted q bs) (quoted-closes_at q bs)) (λ e. closes-behind q b b (c ∷ bs) (quoted q (c ∷ bs)) (quoted-closes_at q (c ∷ bs))))
+    (λ h. closes-cond q (b ∷ c ∷ bs) (b == 92) _ _ (λ e. closes-behind_escape q b c bs (escaped c) (quoted q bs) (same b 92 e) (quoted-closes_at q bs)) (λ e. closes-behind q b b (c ∷ bs) (quoted q (c ∷ bs)) (quoted-closes_at q (c ∷ bs))))
 
 text-at : (q : ℕ) (bs : List ℕ) (r : Quoted) → IsUtf8 bs → q < 128 → 0 < length bs → Closes q (drop 1 bs) r → Reaches bs (as_text r)
 text-at q bs (closed text n) u low some h =
@@ -129,8 +130,10 @@ text-at q bs (closed text n) u low some h =
     let lt : n < length bs = omega (arith, h.1, length-drop 1 bs) in
     let e : n + 1 ≡ 1 + n = omega arith in
     (omega arith, rw e at (IsCharBoundary-after_ascii bs n u lt (omega arith)))
-text-at q bs (wrong at) u low some h = omega (arith, h, length-drop 1 bs)
-text-at q bs open_end u low some h = omega arith
+text-at q bs (wrong at) u low some h =
+    let there : get_or bs (1 + at) 0 ≡ 92 = rw get_or-drop at h.1 in
+    IsCharBoundary-before_ascii bs (1 + at) (omega (arith, h.0, length-drop 1 bs)) (omega arith)
+text-at q bs open_end u low some h = IsCharBoundary-start bs u
 
 quote-low : (q : ℕ) → is_quote q ≡ true → (0 < q) × (q < 128)
 quote-low q h = (grind (arith, nat_tests), grind (arith, nat_tests))
@@ -142,10 +145,10 @@ reaches-text bs u h =
     text-at (get_or bs 0 0) bs (quoted (get_or bs 0 0) (drop 1 bs)) u bounds.1 (inside bs 0 (get_or bs 0 0) bounds.0 refl) (quoted-closes_at (get_or bs 0 0) (drop 1 bs))
 
 -- numbers
-reaches-number_of : (o : Option TokenKind) (n : ℕ) (bs : List ℕ) → 0 < n → IsCharBoundary bs n → Reaches bs (number_of o n bs)
-reaches-number_of None n bs pos cut = omega arith
-reaches-number_of (Some kind) n bs pos cut =
-    reaches-cond bs (is_name_byte (get_or bs n 0)) (Wrong BadChar n) (Made kind n) (λ h. cut.0) (λ h. (pos, cut))
+reaches-number_of : (o : Option TokenKind) (n : ℕ) (bs : List ℕ) → IsUtf8 bs → 0 < n → IsCharBoundary bs n → Reaches bs (number_of o n bs)
+reaches-number_of None n bs u pos cut = IsCharBoundary-start bs u
+reaches-number_of (Some kind) n bs u pos cut =
+    reaches-cond bs (is_name_byte (get_or bs n 0)) (Wrong BadChar n) (Made kind n) (λ h. cut) (λ h. (pos, cut))
 
 after-point : (whole : ℕ) (bs : List ℕ) → IsUtf8 bs → get_or bs whole 0 ≡ 46 → IsCharBoundary bs (whole + 1 + prefix_len is_ascii_digit (drop (whole + 1) bs))
 after-point whole bs u h =
@@ -176,8 +179,8 @@ reaches-number bs u h =
     let whole = prefix_len is_ascii_digit bs in
     let cut : IsCharBoundary bs whole = cut-in_run is_ascii_digit bs whole ascii-digit u (omega arith) in
     reaches-cond bs (get_or bs whole 0 == 46) _ _
-    (λ e. reaches-number_of _ _ bs (omega arith) (after-point whole bs u (same _ 46 e)))
-    (λ e. reaches-number_of _ _ bs (omega (arith, digits-first bs (is_ascii_digit (get_or bs 0 0)) refl h e)) (after-digits whole 0 bs u cut (get_or bs whole 0 == 76) refl))
+    (λ e. reaches-number_of _ _ bs u (omega arith) (after-point whole bs u (same _ 46 e)))
+    (λ e. reaches-number_of _ _ bs u (omega (arith, digits-first bs (is_ascii_digit (get_or bs 0 0)) refl h e)) (after-digits whole 0 bs u cut (get_or bs whole 0 == 76) refl))
 
 -- operators
 find-at : {X : Type 0} (test : X → Bool) (y : X) (ys : List X) (x : X) (v : Bool) → test y ≡ v → (find test ys ≡ Some x → test x ≡ true) → cond v (Some y) (find test ys) ≡ Some x → test x ≡ true
@@ -207,7 +210,7 @@ as_oper-reaches : (o : Option Oper) (bs : List ℕ) → IsUtf8 bs → oper_at bs
 as_oper-reaches (Some oper) bs u e =
     let spelled = spelling-ascii oper in
     (spelled.0, front-boundary (spelling oper) bs u (oper-spelled oper bs e) spelled.0 spelled.1)
-as_oper-reaches None bs u e = omega arith
+as_oper-reaches None bs u e = IsCharBoundary-start bs u
 
 pub reaches-oper : (bs : List ℕ) → IsUtf8 bs → Reaches bs (oper_piece bs)
 unfolding oper_piece
@@ -228,4 +231,4 @@ piece-reaches bs u =
 pub reach-fits : (bs : List ℕ) (P : Piece) → Reaches bs P → piece_len P ≤ length bs
 reach-fits bs (Passed n) h = h.1.0
 reach-fits bs (Made kind n) h = h.1.0
-reach-fits bs (Wrong kind n) h = h
+reach-fits bs (Wrong kind n) h = h.0

@@ -1,6 +1,7 @@
 -- The scan, piece by piece.
 use Rattle.std.proofs.Common.{◌≡◌, Bool, true, false, cond, subst, zero-add, ℕ, zero, suc, ◌+◌, ◌-◌, ◌<◌, ◌≤◌, List, [], ◌∷◌, ◌++◌, length, take, drop, arith, refl, sym, ◌∙◌, ap, add-one, add-zero, append_assoc, append-nil, length-drop, Result, Ok, Err, drop-cons, get_or}
 use Rattle.std.proofs.lemmas.List.{drop-drop}
+use Rattle.std.proofs.lemmas.List.Elements.{All-nil, All-push}
 use Rattle.std.proofs.Math.ListN.{drop_of_length-le}
 use lib.Utf8.{encode}
 use Rattle.token_scan.specs.declared.piece.Piece.{Piece}
@@ -10,12 +11,12 @@ use Rattle.token_scan.specs.declared.token.TokenKind.{TokenKind}
 use Rattle.token_scan.specs.declared.token.ScanFault.{ScanFault}
 use Rattle.token_scan.specs.Pieces.{piece}
 use Rattle.token_scan.specs.Tokens.{token_at, fault_at, before, by_piece, tokens_from, tokens_of, mark_len, piece_len, Takes}
-use Rattle.token_scan.specs.Spans.{AreInOrder}
+use Rattle.token_scan.specs.Spans.{AreInOrder, StandsAtCharacters}
 use Rattle.token_scan.proofs.Reaches.{Reaches, piece-reaches, reach-fits}
 use Rattle.scalar_value.specs.declared.memory.Or.{Or}
 use Rattle.scalar_value.specs.declared.memory.Or.TheVariants.{Fault, Memory}
 use Rattle.scalar_value.specs.Gives.{Gives}
-use Rattle.std.specs.Prelude.{nat_eq}
+use Rattle.std.specs.Prelude.{nat_eq, All}
 use Rattle.std.specs.List.{starts_with}
 use Rattle.std.specs.Str.{IsUtf8, IsCharBoundary}
 use Rattle.std.proofs.lemmas.Slice.Eq.{bytes_eq-Decides}
@@ -88,11 +89,11 @@ mark-cut at bytes text u e same =
 
 -- the scan's start
 pub scan-starts : (at : ℕ) (tokens : List Token) (bytes script : List ℕ) → IsUtf8 script → at ≡ mark_len bytes → bytes ≡ script → tokens ≡ []
-    → IsCharBoundary script at × AreInOrder 0 tokens at × (before tokens (tokens_from at 0 (drop at script)) ≡ tokens_of script)
+    → IsCharBoundary script at × AreInOrder 0 tokens at × All (λ token. IsCharBoundary script token.from) tokens × (before tokens (tokens_from at 0 (drop at script)) ≡ tokens_of script)
 scan-starts at tokens bytes script u e same none =
     let cut = mark-boundary script u in
     let skip = rw zero-add at (scan-skip 0 (mark_len script) script cut.0) in
-    rw (e, same, none) (cut, omega arith, before-none _ ∙ sym skip)
+    rw (e, same, none) (cut, omega arith, All-nil (λ (token : Token). IsCharBoundary script token.from), before-none _ ∙ sym skip)
 
 order-weaken : (low : ℕ) (tokens : List Token) (high more : ℕ) → high ≤ more → AreInOrder low tokens high → AreInOrder low tokens more
 order-weaken low [] high more le h = omega arith
@@ -106,25 +107,26 @@ pub record Goes (at next : ℕ) (tokens : List Token) (script : List ℕ) : Type
   pub on : at < next
   pub cut : IsCharBoundary script next
   pub in_order : AreInOrder 0 tokens next
+  pub stand : All (λ token. IsCharBoundary script token.from) tokens
   pub read : before tokens (tokens_from next 0 (drop next script)) ≡ tokens_of script
 
 -- a turn that takes a piece
-pub scan-goes : (at next : ℕ) (P : Piece) (old new : List Token) (script : List ℕ) → IsUtf8 script → at < length script → IsCharBoundary script at → AreInOrder 0 old at
+pub scan-goes : (at next : ℕ) (P : Piece) (old new : List Token) (script : List ℕ) → IsUtf8 script → at < length script → IsCharBoundary script at → AreInOrder 0 old at → All (λ token. IsCharBoundary script token.from) old
     → P ≡ piece (drop at script) → Takes P at old new (Ok next)
     → before old (tokens_from at 0 (drop at script)) ≡ tokens_of script → Goes at next new script
-scan-goes at next (Passed n) old new script u lt cut order e taken h =
+scan-goes at next (Passed n) old new script u lt cut order stand e taken h =
     let some : 0 < length (drop at script) = omega (arith, length-drop at script) in
     let reach = piece-reach at script (Passed n) u cut e in
     let read = rw (step-passed at n (drop at script) some (sym e) reach.0 reach.1.0, drop-drop n at script) at h in
-    let goes : Goes at (at + n) old script = record { on = omega (arith, reach.0); cut = IsCharBoundary-from_rest script at n cut.0 reach.1; in_order = order-weaken 0 old at (at + n) (omega arith) order; read = read } in
+    let goes : Goes at (at + n) old script = record { on = omega (arith, reach.0); cut = IsCharBoundary-from_rest script at n cut.0 reach.1; in_order = order-weaken 0 old at (at + n) (omega arith) order; stand = stand; read = read } in
     rw (taken.0, taken.1) goes
-scan-goes at next (Made kind n) old new script u lt cut order e taken h =
+scan-goes at next (Made kind n) old new script u lt cut order stand e taken h =
     let some : 0 < length (drop at script) = omega (arith, length-drop at script) in
     let reach = piece-reach at script (Made kind n) u cut e in
     let read = rw (step-made at n kind (drop at script) some (sym e) reach.0 reach.1.0, drop-drop n at script, before-before old (token_at kind at n ∷ []) (tokens_from (at + n) 0 (drop (at + n) script))) at h in
-    let goes : Goes at (at + n) (old ++ token_at kind at n ∷ []) script = record { on = omega (arith, reach.0); cut = IsCharBoundary-from_rest script at n cut.0 reach.1; in_order = order-push 0 at n kind old reach.0 order; read = read } in
+    let goes : Goes at (at + n) (old ++ token_at kind at n ∷ []) script = record { on = omega (arith, reach.0); cut = IsCharBoundary-from_rest script at n cut.0 reach.1; in_order = order-push 0 at n kind old reach.0 order; stand = All-push (λ (token : Token). IsCharBoundary script token.from) old (token_at kind at n) stand cut; read = read } in
     rw (taken.0, taken.1) goes
-scan-goes at next (Wrong kind n) old new script u lt cut order e taken h = absurd taken
+scan-goes at next (Wrong kind n) old new script u lt cut order stand e taken h = absurd taken
 
 pub scan-whole : (at : ℕ) (tokens : List Token) (script : List ℕ) → length script ≤ at
     → before tokens (tokens_from at 0 (drop at script)) ≡ tokens_of script → tokens_of script ≡ Ok tokens
@@ -151,3 +153,13 @@ pub scan-errs : (at : ℕ) (P : Piece) (fault : Or ScanFault) (old new : List To
     → before old (tokens_from at 0 (drop at script)) ≡ tokens_of script → Gives {T = List Token} (Err fault) (tokens_of script)
 scan-errs at P (Fault fault) old new script lt e taken h = scan-stops at P fault old new script lt e taken h
 scan-errs at P Memory old new script lt e taken h = tt
+
+-- where a fault stands
+pub fault-stands : (at : ℕ) (P : Piece) (fault : Or ScanFault) (old new : List Token) (script : List ℕ) → IsUtf8 script → IsCharBoundary script at
+    → P ≡ piece (drop at script) → Takes P at old new (Err fault) → StandsAtCharacters script (Err fault)
+fault-stands at (Passed n) (Fault fault) old new script u cut e taken = absurd taken
+fault-stands at (Made kind n) (Fault fault) old new script u cut e taken = absurd taken
+fault-stands at (Wrong kind n) (Fault fault) old new script u cut e taken =
+    let reach = piece-reach at script (Wrong kind n) u cut e in
+    rw taken (IsCharBoundary-from_rest script at n cut.0 reach)
+fault-stands at P Memory old new script u cut e taken = tt

@@ -8,6 +8,8 @@ mod piece;
 mod place;
 mod scanner;
 mod spelling;
+#[cfg(test)]
+mod tests;
 mod text;
 mod token;
 

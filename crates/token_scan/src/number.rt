@@ -9,7 +9,9 @@ use crate::token::{ScanKind, TokenKind};
 use scalar_value::Dec6;
 
 const ZEROS: [u8; 6] = *b"000000";
+
 const WHOLE_LIMIT: u64 = 1 << 63;
+
 const MILLIONTHS_LIMIT: u64 = 1_000_000_000_000_000_000;
 
 // The number that these digits write behind those of `start`, where it is below the limit.
@@ -101,7 +103,11 @@ pub fn number_piece(bytes: &[u8]) -> Piece
     if byte_at(bytes, whole) == b'.' {
         let fraction = digits_from(bytes, whole + 1);
         let end = whole + 1 + fraction;
-        number_of(decimal_of(&bytes[..whole], &bytes[whole + 1..end]), end, bytes)
+        number_of(
+            decimal_of(&bytes[..whole], &bytes[whole + 1..end]),
+            end,
+            bytes,
+        )
     } else {
         let end = whole + suffix_len(byte_at(bytes, whole));
         number_of(whole_of(&bytes[..whole]), end, bytes)

@@ -1,6 +1,6 @@
 ghost use Rattle.std.specs.Prelude.{◌≡◌, ◌+◌, ◌≤◌, ◌^◌, length, IfOk};
 ghost use Rattle.scalar_value.specs.Gives.{Gives};
-ghost use Rattle.token_scan.specs.Spans.{AreInOrder};
+ghost use Rattle.token_scan.specs.Spans.{AreInOrder, StandsAtCharacters};
 ghost use Rattle.token_scan.specs.Tokens.{mark_len, tokens_of, piece_len, Takes};
 
 use crate::piece::{Piece, piece_at};
@@ -12,7 +12,11 @@ use std::alloc::Global;
 pub fn mark_len(bytes: &[u8]) -> usize
     ensures { result ≡ mark_len bytes.now }
 {
-    if bytes.starts_with(b"\xef\xbb\xbf") { 3 } else { 0 }
+    if bytes.starts_with(b"\xef\xbb\xbf") {
+        3
+    } else {
+        0
+    }
 }
 
 // Puts the token of a piece at this place behind the others, and gives the place behind the piece.
@@ -45,6 +49,7 @@ fn take_piece(tokens: &mut Seq<Token>, at: usize, piece: Piece) -> Res<usize, Sc
 pub fn scan(alloc: Global, script: &str) -> Res<Seq<Token>, ScanFault>
     requires { length script.now ≤ 2 ^ 20 }
     ensures given { Gives result (tokens_of script.now) }
+    ensures places { StandsAtCharacters script.now result }
     ensures in_order { IfOk result (λ tokens. AreInOrder 0 tokens (length script.now)) }
 {
     let mut tokens = Seq::new(alloc);

@@ -105,5 +105,8 @@ pub fn oper_at(bytes: &[u8]) -> Option<Oper>
 pub fn reserved_word(name: &str) -> Option<Reserved>
     ensures { result ≡ reserved_word name.now }
 {
-    RESERVED.iter().copied().find(|word| name == word.spelling())
+    RESERVED
+        .iter()
+        .copied()
+        .find(|word| name == word.spelling())
 }

@@ -8,9 +8,10 @@ use Rattle.token_scan.proofs.text.text_piece.Goals as goal
 pub loop-at-init : goal.loop-at-init
 loop-at-init c =
     let bounds = quote-first c.byte_at-quote.result c.as_bytes-bytes.result.now c.args.rest.now c.byte_at-quote.ensures c.as_bytes-bytes.ensures.value c.requires in
-    let there = inside c.as_bytes-bytes.result.now 0 c.byte_at-quote.result bounds.0 (sym c.byte_at-quote.ensures) in
-    (IsCharBoundary-after_ascii c.as_bytes-bytes.result.now 0 c.as_bytes-bytes.ensures.utf8 there (omega (arith, bounds, c.byte_at-quote.ensures)),
-     text-opens c.byte_at-quote.result c.empty-text.result c.as_bytes-bytes.result.now c.args.rest.now c.byte_at-quote.ensures c.as_bytes-bytes.ensures.value c.empty-text.ensures)
+    let there = inside c.as_bytes-bytes.result.now 0 c.byte_at-quote.result bounds.0 (sym c.byte_at-quote.ensures) in (
+      IsCharBoundary-after_ascii c.as_bytes-bytes.result.now 0 c.as_bytes-bytes.ensures.utf8 there (omega (arith, bounds, c.byte_at-quote.ensures)),
+      text-opens c.byte_at-quote.result c.empty-text.result c.as_bytes-bytes.result.now c.args.rest.now c.byte_at-quote.ensures c.as_bytes-bytes.ensures.value c.empty-text.ensures,
+    )
 
 pub range-requires-clause-end_boundary : goal.range-requires-clause-end_boundary
 range-requires-clause-end_boundary c =
