@@ -54,7 +54,7 @@ quoted-run q at made [] = rw (append-nil, add-zero) refl
 quoted-run q at made (b ∷ bs) = run_at q at b (prefix_len (is_plain q) bs) made bs (is_plain q b) refl (quoted-run q (at + 1) (made ++ b ∷ []) bs)
 
 -- at the closing quote
-quoted-closes : (q : ℕ) (bs : List ℕ) → 0 < length bs → get_or bs 0 0 ≡ q → quoted q bs ≡ closed [] 1
+pub quoted-closes : (q : ℕ) (bs : List ℕ) → 0 < length bs → get_or bs 0 0 ≡ q → quoted q bs ≡ closed [] 1
 unfolding quoted
 quoted-closes q [] h e = absurd (omega arith)
 quoted-closes q (b ∷ []) h e = grind (arith, nat_tests)
@@ -68,7 +68,7 @@ quoted-ends q (b ∷ []) h e = grind (arith, nat_tests)
 quoted-ends q (b ∷ c ∷ bs) h e = absurd (omega arith)
 
 -- at a backslash
-quoted-escapes : (q : ℕ) (bs : List ℕ) → 1 < length bs → get_or bs 0 0 ≢ q → is_plain q (get_or bs 0 0) ≡ false → quoted q bs ≡ behind_escape (escaped (get_or bs 1 0)) (quoted q (drop 2 bs))
+pub quoted-escapes : (q : ℕ) (bs : List ℕ) → 1 < length bs → get_or bs 0 0 ≢ q → is_plain q (get_or bs 0 0) ≡ false → quoted q bs ≡ behind_escape (escaped (get_or bs 1 0)) (quoted q (drop 2 bs))
 unfolding quoted
 quoted-escapes q [] h e p = absurd (omega arith)
 quoted-escapes q (b ∷ []) h e p = absurd (omega arith)

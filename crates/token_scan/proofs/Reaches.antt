@@ -30,11 +30,11 @@ Reaches bs (Passed n) = (0 < n) × IsCharBoundary bs n
 Reaches bs (Made kind n) = (0 < n) × IsCharBoundary bs n
 Reaches bs (Wrong kind n) = IsCharBoundary bs n
 
-run-some : (p : ℕ → Bool) (bs : List ℕ) → p 0 ≡ false → p (get_or bs 0 0) ≡ true → 0 < prefix_len p bs
+pub run-some : (p : ℕ → Bool) (bs : List ℕ) → p 0 ≡ false → p (get_or bs 0 0) ≡ true → 0 < prefix_len p bs
 run-some p [] none h = cc
 run-some p (b ∷ bs) none h = rw h (omega arith)
 
-name-first : (bs : List ℕ) → begins_name bs ≡ true → is_name_byte (get_or bs 0 0) ≡ true
+pub name-first : (bs : List ℕ) → begins_name bs ≡ true → is_name_byte (get_or bs 0 0) ≡ true
 name-first bs h = grind (arith, nat_tests)
 
 pub reaches-name : (bs : List ℕ) → IsUtf8 bs → begins_name bs ≡ true → Reaches bs (name_piece bs)
@@ -46,7 +46,7 @@ pub reaches-blank : (bs : List ℕ) → IsUtf8 bs → is_blank (get_or bs 0 0) �
 reaches-blank bs u h =
     (run-some is_blank bs refl h, cut-in_run is_blank bs (prefix_len is_blank bs) ascii-blank u (omega arith))
 
-in_line-stop : (b : ℕ) → is_in_line b ≡ false → b ≡ 10
+pub in_line-stop : (b : ℕ) → is_in_line b ≡ false → b ≡ 10
 in_line-stop b h = grind (arith, nat_tests)
 
 -- a comment ends at a line feed or with the script
@@ -64,10 +64,10 @@ reaches-cond : (bs : List ℕ) (b : Bool) (P Q : Piece) → (b ≡ true → Reac
 reaches-cond bs true P Q yes_ no_ = yes_ refl
 reaches-cond bs false P Q yes_ no_ = no_ refl
 
-same : (x y : ℕ) → (x == y) ≡ true → x ≡ y
+pub same : (x y : ℕ) → (x == y) ≡ true → x ≡ y
 same x y h = grind (arith, nat_tests)
 
-other : (x y : ℕ) → (x == y) ≡ false → x ≢ y
+pub other : (x y : ℕ) → (x == y) ≡ false → x ≢ y
 other x y h = λ e. grind (arith, nat_tests)
 
 -- a name between backquotes ends behind the second
@@ -155,14 +155,14 @@ after-point whole bs u h =
     let behind_it : IsCharBoundary bs (whole + 1) = IsCharBoundary-after_ascii bs whole u (inside bs whole 46 (lit< tt) h) (omega arith) in
     IsCharBoundary-from_rest bs (whole + 1) _ behind_it.0 (cut-in_run is_ascii_digit (drop (whole + 1) bs) (prefix_len is_ascii_digit (drop (whole + 1) bs)) ascii-digit (IsUtf8-drop bs (whole + 1) u behind_it) (omega arith))
 
-run-none : (p : ℕ → Bool) (bs : List ℕ) → p (get_or bs 0 0) ≡ false → prefix_len p bs ≡ 0
+pub run-none : (p : ℕ → Bool) (bs : List ℕ) → p (get_or bs 0 0) ≡ false → prefix_len p bs ≡ 0
 run-none p [] h = refl
 run-none p (b ∷ bs) h = rw h refl
 
 point-first : (bs : List ℕ) → begins_number bs ≡ true → is_ascii_digit (get_or bs 0 0) ≡ false → get_or bs 0 0 ≡ 46
 point-first bs h e = grind (arith, nat_tests)
 
-digits-first : (bs : List ℕ) (v : Bool) → is_ascii_digit (get_or bs 0 0) ≡ v → begins_number bs ≡ true → (get_or bs (prefix_len is_ascii_digit bs) 0 == 46) ≡ false → 0 < prefix_len is_ascii_digit bs
+pub digits-first : (bs : List ℕ) (v : Bool) → is_ascii_digit (get_or bs 0 0) ≡ v → begins_number bs ≡ true → (get_or bs (prefix_len is_ascii_digit bs) 0 == 46) ≡ false → 0 < prefix_len is_ascii_digit bs
 digits-first bs true e h f = run-some is_ascii_digit bs refl e
 digits-first bs false e h f =
     let none : prefix_len is_ascii_digit bs ≡ 0 = run-none is_ascii_digit bs e in
@@ -187,11 +187,11 @@ find-at : {X : Type 0} (test : X → Bool) (y : X) (ys : List X) (x : X) (v : Bo
 find-at test y ys x true e more h = let s : y ≡ x = cc in rw s at e
 find-at test y ys x false e more h = more h
 
-find-passes : {X : Type 0} (test : X → Bool) (xs : List X) (x : X) → find test xs ≡ Some x → test x ≡ true
+pub find-passes : {X : Type 0} (test : X → Bool) (xs : List X) (x : X) → find test xs ≡ Some x → test x ≡ true
 find-passes test [] x h = cc
 find-passes test (y ∷ ys) x h = find-at test y ys x (test y) refl (find-passes test ys x) h
 
-spelling-ascii : (oper : Oper) → (0 < length (spelling oper)) × (get_or (spelling oper) (length (spelling oper) - 1) 0 < 128)
+pub spelling-ascii : (oper : Oper) → (0 < length (spelling oper)) × (get_or (spelling oper) (length (spelling oper) - 1) 0 < 128)
 spelling-ascii op.BarPipe = (lit< tt, lit< tt)
 spelling-ascii other_one = (lit< tt, lit< tt)
 

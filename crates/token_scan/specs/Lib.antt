@@ -2,6 +2,7 @@ pub mod Alphabet
 pub mod Numbers
 pub mod Pieces
 pub mod Places
+pub mod Reading
 pub mod Spans
 pub mod Spelling
 pub mod Texts

@@ -2,6 +2,7 @@
 #![tactic(auto)]
 
 mod alphabet;
+mod laws;
 mod name;
 mod number;
 mod piece;
@@ -13,6 +14,7 @@ mod tests;
 mod text;
 mod token;
 
+pub use laws::tokens_are_read;
 pub use place::place_of;
 pub use scanner::scan;
 pub use token::{Oper, Place, Reserved, ScanFault, ScanKind, Token, TokenKind};
