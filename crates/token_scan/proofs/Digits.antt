@@ -64,8 +64,11 @@ below-more limit n xs ys None h =
 below-more limit n xs ys (Some v) h =
     rw (digits-append n xs ys, below-is_some limit _ v h) refl
 
+zeros-short : (n y : ℕ) → length (replicate n y) ≤ n
+zeros-short n y = omega (arith, length-replicate n y)
+
 -- of six zeros those behind the first k
 pub digits-zeros_behind : (k : ℕ) → ◌≡◌ {A = List ℕ} (take (6 - k) (drop k (48 ∷ 48 ∷ 48 ∷ 48 ∷ 48 ∷ 48 ∷ []))) (replicate (6 - k) 48)
 digits-zeros_behind k =
     let e : drop k (replicate 6 48) ≡ replicate (6 - k) 48 = drop-replicate k 6 48 in
-    ap (λ (xs : List ℕ). take (6 - k) xs) e ∙ take_all (6 - k) (replicate (6 - k) 48) (omega (arith, length-replicate {A = ℕ}))
+    ap (λ (xs : List ℕ). take (6 - k) xs) e ∙ take_all (6 - k) (replicate (6 - k) 48) (zeros-short (6 - k) 48)
