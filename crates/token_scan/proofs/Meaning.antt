@@ -1,6 +1,6 @@
 -- Each piece is what its bytes say: a token of the piece's bytes, and no longer one.
-use Rattle.std.proofs.Common.{◌≡◌, ◌≢◌, ◌⊎◌, inl, inr, ℕ, zero, suc, ◌+◌, ◌-◌, ◌<◌, ◌≤◌, Bool, true, false, not, cond, ◌==◌, ◌||◌, ◌&&◌, leb, ltb, List, [], ◌∷◌, ◌++◌, length, get_or, take, drop, arith, refl, sym, ◌∙◌, ap, subst, add-one, add-zero, zero-add, length-drop, length-take, length-append, Option, Some, None, lit<, pos, append-nil, append_assoc, ◌^◌}
-use Rattle.std.specs.Prelude.{nat_eq, nat_le, nat_lt, find, IsTrue, All}
+use Rattle.std.proofs.Common.{◌≡◌, ◌≢◌, ◌⊎◌, inl, inr, ℕ, zero, suc, ◌+◌, ◌-◌, ◌<◌, ◌≤◌, Bool, true, false, not, cond, ◌==◌, ◌||◌, ◌&&◌, leb, ltb, List, [], ◌∷◌, ◌++◌, length, get_or, take, drop, arith, refl, sym, ◌∙◌, ap, subst, add-zero, zero-add, length-take, length-append, Option, Some, None, lit<, pos, append-nil, append_assoc, ◌^◌}
+use Rattle.std.specs.Prelude.{nat_eq, nat_le, nat_lt, find, IsTrue}
 use Rattle.std.specs.Option.{option_map}
 use Rattle.std.specs.List.{prefix_len, starts_with, AllPass, list_all, list_any}
 use Rattle.std.specs.Str.{bytes_eq}
@@ -8,26 +8,26 @@ use Rattle.std.specs.Str.Parse.{digits_value}
 use Rattle.std.specs.Char.{is_ascii_digit, is_ascii_alphabetic}
 use Rattle.std.proofs.lemmas.Bool.Decides.{nat_tests}
 use Rattle.std.proofs.lemmas.List.{get_or-take, get_or-drop, get_or_past, get_or_append_left, take_more, take-append-drop, length-take-le}
-use Rattle.std.proofs.lemmas.List.Elements.{All-cons, All-nil, All-append, All-weaker}
+use Rattle.std.proofs.lemmas.List.Elements.{All-cons, All-append, All-weaker}
 use Rattle.std.proofs.lemmas.List.Sums.{prefix_len-le-length, prefix_len_stops, prefix_len_passes, AllPass-from_list_all}
 use Rattle.std.proofs.lemmas.Slice.Eq.{bytes_eq-Decides}
 use Rattle.token_scan.specs.declared.piece.Piece.{Piece}
 use Rattle.token_scan.specs.declared.piece.Piece.TheVariants.{Passed, Made, Wrong}
 use Rattle.token_scan.specs.declared.token.TokenKind.{TokenKind}
 use Rattle.token_scan.specs.declared.token.TokenKind.TheVariants.{Name, Whole, Decimal, Str, Word, Op, Line}
-use Rattle.token_scan.specs.declared.token.ScanKind.TheVariants.{BadChar, OpenText, NumberRange}
+use Rattle.token_scan.specs.declared.token.ScanKind.TheVariants.{BadChar, OpenText}
 use Rattle.token_scan.specs.declared.token.Oper.{Oper}
 use Rattle.token_scan.specs.declared.token.Oper.TheVariants as op
 use Rattle.token_scan.specs.declared.token.Reserved.{Reserved}
 use Rattle.token_scan.specs.declared.token.Reserved.TheVariants as word
 use Rattle.token_scan.specs.Alphabet.{is_name_byte, is_blank, is_quotable, is_in_line, is_quote, begins_name, begins_number}
-use Rattle.token_scan.specs.Numbers.{below, whole_of, decimal_of, millionths}
+use Rattle.token_scan.specs.Numbers.{whole_of, decimal_of, millionths}
 use Rattle.token_scan.specs.Spelling.{spelling, opers, oper_at, word_spelling, reserved_words, reserved_word}
 use Rattle.token_scan.specs.Texts.{Quoted, closed, wrong, open_end, quoted, behind, behind_escape, escaped, is_plain}
 use Rattle.token_scan.specs.Pieces.{piece, word_or_name, name_piece, quoted_name, text_piece, as_text, number_piece, number_of, oper_piece, as_oper}
 use Rattle.token_scan.specs.Reading.{StandsFor, nothing, itself, escape, Spells, NoneIsLonger}
 use Rattle.token_scan.proofs.Quotes.{inside, quoted-plain, quoted-closes, quoted-escapes}
-use Rattle.token_scan.proofs.Reaches.{same, other, run-some, run-none, name-first, digits-first, find-passes, oper-spelled, spelling-ascii, in_line-stop}
+use Rattle.token_scan.proofs.Reaches.{same, run-some, run-none, name-first, digits-first, find-passes, oper-spelled, spelling-ascii, in_line-stop}
 
 -- blanks, or a comment up to the line's end
 abbrev pub PassedBy : ℕ → List ℕ → Type 0
@@ -139,9 +139,10 @@ means-name : (bs : List ℕ) → begins_name bs ≡ true → Means bs (name_piec
 unfolding name_piece
 means-name bs h =
     let n = prefix_len is_name_byte bs in
-    let some : 0 < prefix_len is_name_byte bs = run-some is_name_byte bs refl (name-first bs h) in
-    (word-or-name (reserved_word (take n bs)) (take n bs) refl (begins-take n bs some h) (all-run is_name_byte bs),
-     none-longer-name n bs (name-first bs h) some (prefix_len_stops is_name_byte bs 0))
+    let some : 0 < prefix_len is_name_byte bs = run-some is_name_byte bs refl (name-first bs h) in (
+      word-or-name (reserved_word (take n bs)) (take n bs) refl (begins-take n bs some h) (all-run is_name_byte bs),
+      none-longer-name n bs (name-first bs h) some (prefix_len_stops is_name_byte bs 0),
+    )
 
 -- numbers
 number-first : (bs : List ℕ) → begins_number bs ≡ true → is_name_byte (get_or bs 0 0) ≡ true
@@ -210,7 +211,7 @@ means-number bs h =
     means-cond bs (get_or bs n 0 == 46) _ _
     (λ e. means-number_of _ _ bs (number-first bs h) (omega arith) (λ kind k. spells-decimal n f bs kind refl refl (same _ 46 e) (digits-some bs (is_ascii_digit (get_or bs 0 0)) refl h) k))
     (λ e. let some = digits-first bs (is_ascii_digit (get_or bs 0 0)) refl h e in
-        means-number_of _ _ bs (number-first bs h) (omega arith) (λ kind k. spells-whole n bs kind (get_or bs n 0 == 76) refl some refl k))
+    means-number_of _ _ bs (number-first bs h) (omega arith) (λ kind k. spells-whole n bs kind (get_or bs n 0 == 76) refl some refl k))
 
 -- what a token of a kind begins with
 word-first : (word : Reserved) → is_name_byte (get_or (word_spelling word) 0 0) ≡ true
@@ -310,7 +311,7 @@ means-quoted_name (b ∷ r) e =
     let n = prefix_len is_quotable r in
     means-cond (b ∷ r) (get_or r n 0 == 96) _ (Wrong OpenText 0)
     (λ h. means-cond (b ∷ r) (n == 0) (Wrong BadChar 0) _ (λ z. tt)
-        (λ z. let some : 0 < prefix_len is_quotable r = positive n z in (spells-quoted b n r e refl (same _ 96 h) some, none-longer-quoted b n r e (same _ 96 h))))
+    (λ z. let some : 0 < prefix_len is_quotable r = positive n z in (spells-quoted b n r e refl (same _ 96 h) some, none-longer-quoted b n r e (same _ 96 h))))
     (λ h. tt)
 
 -- texts
@@ -357,8 +358,8 @@ quoted-stands q (b ∷ []) = stands-cond q (b ∷ []) (b == q) (closed [] 1) ope
 quoted-stands q (b ∷ c ∷ bs) =
     stands-cond q (b ∷ c ∷ bs) (b == q) (closed [] 1) _ (stands-here q b (c ∷ bs))
     (λ h. stands-cond q (b ∷ c ∷ bs) (b == 92) _ _
-        (λ e. stands-backslash q b c bs _ (same b 92 e) (stands-behind_escape q c bs (escaped c) (quoted q bs) refl (quoted-stands q bs)))
-        (λ e. stands-behind q b (c ∷ bs) (quoted q (c ∷ bs)) (plain-from q b h e) (quoted-stands q (c ∷ bs))))
+    (λ e. stands-backslash q b c bs _ (same b 92 e) (stands-behind_escape q c bs (escaped c) (quoted q bs) refl (quoted-stands q bs)))
+    (λ e. stands-behind q b (c ∷ bs) (quoted q (c ∷ bs)) (plain-from q b h e) (quoted-stands q (c ∷ bs))))
 
 quote-no-escape : (q : ℕ) → is_quote q ≡ true → (92 ≢ q) × (is_plain q 92 ≡ false)
 quote-no-escape q h = (λ e. grind (arith, nat_tests), grind (arith, nat_tests))

@@ -1,14 +1,14 @@
 -- Reading on in a text.
-use Rattle.std.proofs.Common.{◌≡◌, ◌≢◌, ℕ, zero, suc, ◌+◌, ◌-◌, ◌<◌, ◌≤◌, Bool, true, false, not, cond, ◌==◌, ◌||◌, eqb, leb, List, [], ◌∷◌, ◌++◌, length, get_or, take, drop, arith, refl, sym, ◌∙◌, ap, ap₂, add-one, add-zero, length-drop, append_assoc, append-nil, Option, Some, None}
+use Rattle.std.proofs.Common.{◌≡◌, ◌≢◌, ℕ, suc, ◌+◌, ◌-◌, ◌<◌, ◌≤◌, Bool, true, false, cond, leb, List, [], ◌∷◌, ◌++◌, length, get_or, take, drop, arith, refl, sym, ◌∙◌, ap, add-zero, length-drop, append_assoc, append-nil, Option, Some, None}
 use Rattle.std.specs.List.{prefix_len}
 use Rattle.std.specs.Str.{IsUtf8, IsCharBoundary}
 use Rattle.std.proofs.lemmas.Bool.Decides.{nat_tests}
 use Rattle.std.proofs.lemmas.List.{drop-drop, get_or-drop, get_or_past}
 use Rattle.std.proofs.Math.ListN.{drop_of_length-le}
-use Rattle.std.proofs.lemmas.List.Sums.{prefix_len-le-length, prefix_len_stops}
+use Rattle.std.proofs.lemmas.List.Sums.{prefix_len_stops}
 use Rattle.std.proofs.lemmas.Str.{IsCharBoundary-after_ascii}
 use Rattle.token_scan.specs.declared.piece.Piece.{Piece}
-use Rattle.token_scan.specs.declared.piece.Piece.TheVariants.{Passed, Made, Wrong}
+use Rattle.token_scan.specs.declared.piece.Piece.TheVariants.{Made, Wrong}
 use Rattle.token_scan.specs.declared.token.TokenKind.TheVariants.{Str}
 use Rattle.token_scan.specs.declared.token.ScanKind.TheVariants.{BadChar, OpenText}
 use Rattle.std.specs.Prelude.{IsTrue}

@@ -1,5 +1,5 @@
 -- How far a piece reaches: at least one byte, and to where the text may be cut.
-use Rattle.std.proofs.Common.{◌≡◌, ◌≢◌, ℕ, zero, suc, ◌+◌, ◌-◌, ◌<◌, ◌≤◌, Bool, true, false, not, cond, ◌==◌, ◌||◌, ◌&&◌, eqb, leb, List, [], ◌∷◌, ◌++◌, length, get_or, take, drop, arith, refl, sym, ◌∙◌, ap, subst, add-one, add-zero, length-drop, Option, Some, None, lit<}
+use Rattle.std.proofs.Common.{◌≡◌, ◌≢◌, ℕ, suc, ◌+◌, ◌-◌, ◌<◌, ◌≤◌, Bool, true, false, cond, ◌==◌, List, [], ◌∷◌, length, get_or, take, drop, arith, refl, sym, ◌∙◌, ap, add-zero, length-drop, Option, Some, None, lit<}
 use Rattle.std.specs.Prelude.{nat_eq, find}
 use Rattle.std.specs.List.{prefix_len, starts_with}
 use Rattle.std.proofs.lemmas.Slice.Eq.{bytes_eq-Decides}
@@ -11,12 +11,12 @@ use Rattle.std.specs.Str.{IsUtf8, IsCharBoundary}
 use Rattle.std.specs.Char.{is_ascii_digit}
 use Rattle.std.proofs.lemmas.Bool.Decides.{nat_tests}
 use Rattle.std.proofs.lemmas.List.{get_or-drop, get_or-take, length-take}
-use Rattle.std.proofs.lemmas.List.Sums.{prefix_len-le-length, prefix_len_stops, prefix_len_passes}
+use Rattle.std.proofs.lemmas.List.Sums.{prefix_len-le-length, prefix_len_stops}
 use Rattle.std.proofs.lemmas.Str.{IsCharBoundary-after_ascii, IsCharBoundary-start, IsCharBoundary-before_ascii, IsCharBoundary-from_rest, IsUtf8-drop}
 use Rattle.token_scan.specs.declared.piece.Piece.{Piece}
 use Rattle.token_scan.specs.declared.piece.Piece.TheVariants.{Passed, Made, Wrong}
 use Rattle.token_scan.specs.declared.token.TokenKind.{TokenKind}
-use Rattle.token_scan.specs.declared.token.ScanKind.TheVariants.{BadChar, OpenText, NumberRange}
+use Rattle.token_scan.specs.declared.token.ScanKind.TheVariants.{BadChar, OpenText}
 use Rattle.token_scan.specs.Alphabet.{is_name_byte, is_blank, is_quotable, is_in_line, is_quote, begins_name, begins_number}
 use Rattle.token_scan.specs.Texts.{Quoted, closed, wrong, open_end, quoted, behind, behind_escape, escaped}
 use Rattle.token_scan.specs.Pieces.{piece, name_piece, quoted_name, text_piece, as_text, number_piece, number_of, oper_piece, as_oper}

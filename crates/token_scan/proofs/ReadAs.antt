@@ -1,5 +1,5 @@
 -- A script is read as the tokens that its definition gives.
-use Rattle.std.proofs.Common.{◌≡◌, inl, inr, ℕ, zero, suc, ◌+◌, ◌-◌, ◌<◌, ◌≤◌, List, [], ◌∷◌, ◌++◌, length, drop, take, arith, refl, sym, ◌∙◌, ap, subst, add-zero, zero-add, Result, Ok, Err}
+use Rattle.std.proofs.Common.{◌≡◌, inl, inr, ℕ, zero, suc, ◌+◌, ◌-◌, ◌<◌, ◌≤◌, List, [], ◌∷◌, length, drop, take, arith, refl, sym, ap, subst, Result, Ok, Err}
 use Rattle.std.specs.Str.{IsUtf8, IsCharBoundary}
 use Rattle.std.proofs.lemmas.Str.{IsUtf8-drop}
 use Rattle.token_scan.specs.declared.piece.Piece.{Piece}
@@ -9,7 +9,7 @@ use Rattle.token_scan.specs.declared.token.TokenKind.{TokenKind}
 use Rattle.token_scan.specs.declared.token.ScanFault.{ScanFault}
 use Rattle.token_scan.specs.Pieces.{piece}
 use Rattle.token_scan.specs.Reading.{Reads, ends, blanks, comment, token, Spells, NoneIsLonger, TokensAreRead}
-use Rattle.token_scan.specs.Tokens.{token_at, before, by_piece, tokens_from, tokens_of, mark_len}
+use Rattle.token_scan.specs.Tokens.{token_at, before, by_piece, tokens_from, mark_len}
 use Rattle.token_scan.proofs.Meaning.{Means, PassedBy, piece-means}
 use Rattle.token_scan.proofs.Reaches.{Reaches, piece-reaches}
 use Rattle.token_scan.proofs.Scanning.{mark-boundary}

@@ -1,5 +1,5 @@
 -- The scan, piece by piece.
-use Rattle.std.proofs.Common.{◌≡◌, Bool, true, false, cond, subst, zero-add, ℕ, zero, suc, ◌+◌, ◌-◌, ◌<◌, ◌≤◌, List, [], ◌∷◌, ◌++◌, length, take, drop, arith, refl, sym, ◌∙◌, ap, add-one, add-zero, append_assoc, append-nil, length-drop, Result, Ok, Err, drop-cons, get_or}
+use Rattle.std.proofs.Common.{◌≡◌, Bool, true, false, cond, subst, zero-add, ℕ, zero, suc, ◌+◌, ◌-◌, ◌<◌, ◌≤◌, List, [], ◌∷◌, ◌++◌, length, take, drop, arith, refl, sym, ◌∙◌, ap, add-zero, append_assoc, append-nil, length-drop, Result, Ok, Err}
 use Rattle.std.proofs.lemmas.List.{drop-drop}
 use Rattle.std.proofs.lemmas.List.Elements.{All-nil, All-push}
 use Rattle.std.proofs.Math.ListN.{drop_of_length-le}
@@ -10,7 +10,7 @@ use Rattle.token_scan.specs.declared.token.Token.{Token}
 use Rattle.token_scan.specs.declared.token.TokenKind.{TokenKind}
 use Rattle.token_scan.specs.declared.token.ScanFault.{ScanFault}
 use Rattle.token_scan.specs.Pieces.{piece}
-use Rattle.token_scan.specs.Tokens.{token_at, fault_at, before, by_piece, tokens_from, tokens_of, mark_len, piece_len, Takes}
+use Rattle.token_scan.specs.Tokens.{token_at, before, by_piece, tokens_from, tokens_of, mark_len, piece_len, Takes}
 use Rattle.token_scan.specs.Spans.{AreInOrder, StandsAtCharacters}
 use Rattle.token_scan.proofs.Reaches.{Reaches, piece-reaches, reach-fits}
 use Rattle.scalar_value.specs.declared.memory.Or.{Or}

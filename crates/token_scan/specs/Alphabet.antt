@@ -1,5 +1,5 @@
 -- Which bytes are what in a script. Past a script's end a byte counts as 0, which is none of these.
-use Rattle.std.specs.Prelude.{ℕ, ◌+◌, Bool, not, ◌==◌, ◌&&◌, ◌||◌, List, slice_index}
+use Rattle.std.specs.Prelude.{ℕ, Bool, not, ◌==◌, ◌&&◌, ◌||◌, List, slice_index}
 use Rattle.std.specs.Char.{is_ascii_digit, is_ascii_alphabetic, is_ascii_alphanumeric}
 
 -- letters, digits, the point and the underscore: what a name goes on with

@@ -1,5 +1,5 @@
 -- The numbers of a script, by their digits.
-use Rattle.std.specs.Prelude.{ℕ, ◌+◌, ◌-◌, ◌^◌, pos, nat_lt, nat_le, if◌then◌else◌, List, ◌++◌, length, replicate, Option, Some, None}
+use Rattle.std.specs.Prelude.{ℕ, ◌-◌, ◌^◌, pos, nat_lt, nat_le, if◌then◌else◌, List, ◌++◌, length, replicate, Option, Some, None}
 use Rattle.std.specs.Option.{option_map}
 use Rattle.std.specs.Str.Parse.{digits_value}
 use Rattle.token_scan.specs.declared.token.TokenKind.{TokenKind}

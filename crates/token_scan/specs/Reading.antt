@@ -1,5 +1,5 @@
 -- What it means that a script is read as these tokens, token by token.
-use Rattle.std.specs.Prelude.{◌≡◌, ℕ, ◌+◌, ◌<◌, ◌≤◌, pos, true, ◌⊎◌, List, [], ◌∷◌, ◌++◌, take, drop, length, slice_index, IsTrue, Option, Some, None, Ok}
+use Rattle.std.specs.Prelude.{◌≡◌, ℕ, ◌+◌, ◌<◌, ◌≤◌, pos, true, ◌⊎◌, List, [], ◌∷◌, ◌++◌, take, drop, length, slice_index, IsTrue, Some, None, Ok}
 use Rattle.std.specs.Char.{is_ascii_digit}
 use Rattle.std.specs.List.{AllPass}
 use Rattle.std.specs.Str.{IsUtf8}
@@ -43,9 +43,9 @@ pub data Reads : ℕ → List ℕ → List Token → Type 0 where
   ends : (at : ℕ) → Reads at [] []
   blanks : (at n : ℕ) {bs : List ℕ} {tokens : List Token} → n ≤ length bs → AllPass is_blank (take n bs) → Reads (at + n) (drop n bs) tokens → Reads at bs tokens
   comment : (at n : ℕ) {bs : List ℕ} {tokens : List Token} → n ≤ length bs → slice_index bs 0 ≡ 35 → AllPass is_in_line (take n bs)
-    → ((n ≡ length bs) ⊎ (slice_index bs n ≡ 10)) → Reads (at + n) (drop n bs) tokens → Reads at bs tokens
+      → ((n ≡ length bs) ⊎ (slice_index bs n ≡ 10)) → Reads (at + n) (drop n bs) tokens → Reads at bs tokens
   token : (at n : ℕ) (kind : TokenKind) {bs : List ℕ} {tokens : List Token} → n ≤ length bs → Spells kind (take n bs) → NoneIsLonger n bs
-    → Reads (at + n) (drop n bs) tokens → Reads at bs (token_at kind at n ∷ tokens)
+      → Reads (at + n) (drop n bs) tokens → Reads at bs (token_at kind at n ∷ tokens)
 
 -- The tokens of a script are those as which it is read, behind its mark.
 abbrev pub TokensAreRead : Type 0

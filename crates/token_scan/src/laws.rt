@@ -4,5 +4,4 @@ ghost use Rattle.token_scan.specs.Reading.{TokensAreRead};
 /// and between two of them stand only blanks and comments.
 pub fn tokens_are_read()
     ensures { TokensAreRead }
-{
-}
+{}

@@ -45,7 +45,8 @@ fn take_piece(tokens: &mut Seq<Token>, at: usize, piece: Piece) -> Res<usize, Sc
 /// reading order; a wrong escape in a text comes before the text's missing end.
 ///
 /// Spaces, tabs, carriage returns, comments and a UTF-8 mark at the start are passed over; a line feed is a token.
-/// Names, numbers, texts and operators are spelled as R spells them.
+/// Names, numbers, texts, reserved words and operators are spelled as R spells them (R Language Definition,
+/// section Tokens), as far as they are in this profile. The condition is that the script has at most 2^20 bytes.
 pub fn scan(alloc: Global, script: &str) -> Res<Seq<Token>, ScanFault>
     requires { length script.now ≤ 2 ^ 20 }
     ensures given { Gives result (tokens_of script.now) }

@@ -1,5 +1,4 @@
-use Rattle.std.proofs.Common.{arith, ◌≤◌}
-use Rattle.std.specs.List.{prefix_len}
+use Rattle.std.proofs.Common.{arith}
 use Rattle.token_scan.proofs.Cuts.{cut-in_run, ascii-name_byte}
 use Rattle.token_scan.specs.Alphabet.{is_name_byte}
 use Rattle.token_scan.proofs.name.name_piece.Goals as goal

@@ -1,4 +1,4 @@
-use Rattle.std.proofs.Common.{arith, ◌<◌, ◌≤◌, length}
+use Rattle.std.proofs.Common.{arith}
 use Rattle.std.proofs.lemmas.Str.{IsCharBoundary-after_ascii}
 use Rattle.token_scan.proofs.Cuts.{nonempty}
 use Rattle.token_scan.proofs.name.quoted_name.Goals as goal

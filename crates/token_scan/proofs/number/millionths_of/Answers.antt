@@ -1,5 +1,4 @@
-use Rattle.std.proofs.Common.{rules, arith, sym, ◌∙◌, ◌≡◌, ◌<◌, ◌≤◌, ◌^◌, ◌+◌, ◌++◌, length, drop, ℕ, ◌-◌, ◌*◌, None, Some, replicate}
-use Rattle.std.specs.Str.Parse.{digits_value_after}
+use Rattle.std.proofs.Common.{◌∙◌, ◌^◌, ◌++◌, length, ◌-◌, None, Some, replicate}
 use Rattle.token_scan.proofs.Digits.{below-more, digits-zeros, digits-zeros_behind}
 use Rattle.token_scan.proofs.number.millionths_of.Goals as goal
 

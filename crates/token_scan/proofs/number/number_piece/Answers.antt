@@ -1,4 +1,4 @@
-use Rattle.std.proofs.Common.{rules, arith, sym, ◌∙◌, ◌≡◌, ◌<◌, ◌≤◌, ◌^◌, ◌+◌, ◌++◌, length, drop, take, ℕ, ◌-◌, ◌*◌, None, Some}
+use Rattle.std.proofs.Common.{arith, ◌≡◌, ◌+◌, drop, ◌-◌}
 use Rattle.token_scan.proofs.Digits.{digits-run}
 use Rattle.token_scan.proofs.number.number_piece.Goals as goal
 

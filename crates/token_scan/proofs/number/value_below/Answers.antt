@@ -1,6 +1,5 @@
-use Rattle.std.proofs.Common.{rules, arith, sym, ◌∙◌, ◌≡◌, ◌<◌, ◌≤◌, ◌^◌, ◌+◌, length, drop, ℕ, ◌-◌, ◌*◌, None}
+use Rattle.std.proofs.Common.{arith, sym, ◌∙◌, ◌+◌, drop, ◌*◌}
 use Rattle.std.specs.Str.Parse.{digits_value_after}
-use Rattle.token_scan.specs.Numbers.{below}
 use Rattle.token_scan.proofs.Digits.{digits-grow, digits-step, below-none}
 use Rattle.std.proofs.lemmas.Str.Parse.{digit_at}
 use Rattle.token_scan.proofs.number.value_below.Goals as goal

@@ -1,4 +1,3 @@
-use Rattle.std.proofs.Common.{◌≡◌}
 use Rattle.token_scan.proofs.Lines.{line-cut}
 use Rattle.token_scan.proofs.place.last_line.Goals as goal
 

@@ -1,6 +1,4 @@
-use Rattle.std.proofs.Common.{◌≡◌}
-use Rattle.token_scan.specs.Tokens.{mark_len}
-use Rattle.token_scan.proofs.Scanning.{mark-boundary, mark-cut}
+use Rattle.token_scan.proofs.Scanning.{mark-cut}
 use Rattle.token_scan.proofs.place.unmarked.Goals as goal
 
 pub split_at-requires : goal.split_at-requires

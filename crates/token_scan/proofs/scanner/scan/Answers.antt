@@ -1,7 +1,6 @@
-use Rattle.std.proofs.Common.{arith, sym, ◌∙◌, ◌≡◌, ◌<◌, ◌≤◌, ◌+◌, ◌-◌, length, drop}
+use Rattle.std.proofs.Common.{arith}
 use Rattle.std.proofs.lemmas.Result.{err_from_is_err_and}
-use Rattle.token_scan.specs.Pieces.{piece}
-use Rattle.token_scan.proofs.Scanning.{Goes, fault-stands, scan-starts, scan-goes, scan-errs, scan-fits, scan-whole}
+use Rattle.token_scan.proofs.Scanning.{fault-stands, scan-starts, scan-goes, scan-errs, scan-fits, scan-whole}
 use Rattle.token_scan.proofs.scanner.scan.Goals as goal
 
 pub loop-at-init : goal.loop-at-init
