@@ -21,13 +21,13 @@ module _ {R : Type 0} (P : Plan R) (well : WellFormed P) (at : IsWorker P 1) whe
       known_by (λ h. record { done = h.0; sound = a.sound; idle = nothing_in_flight P s a h.1 }) (λ e. (e.done, e.idle 1 at))
       (both (known_phase (s.phase P.sink) Done) (known_free (s.tasks 1)))
 
-  ends_within : (bound : ℕ) → ((es : List Entry) → IsHistory P es → length es ≤ bound) → (k : ℕ) (es : List Entry) → IsDrivenFrom P es (opening P) → bound < length es + k → (run : List Entry) × IsDriven P run
+  ends_within : (bound : ℕ) → ((es : List Entry) → IsHistory P es → length es ≤ bound) → (k : ℕ) (es : List Entry) → IsDrivenFrom P es (opening P) → bound < length es + k → (run : List Entry) × IsDriven P run × (length run ≤ bound)
   ends_within bound most zero es d low = let a = most es (driven_legal P es (opening P) d) in absurd (omega arith)
   ends_within bound most (suc k) es d low = go (λ x next. ends_within bound most k (es ++ x ∷ []) ((grows P es x (opening P)).driven d next) (let a = length-append es (x ∷ []) in omega arith)) (known_end (state_after P es) (alone P es d))
     where
-      go : ((x : Entry) → IsDriverEntry P (state_after P es) x → (run : List Entry) × IsDriven P run) → Known (IsEnded P (state_after P es)) → (run : List Entry) × IsDriven P run
-      go more (inl e) = (es, record { driven = d; ended = e })
+      go : ((x : Entry) → IsDriverEntry P (state_after P es) x → (run : List Entry) × IsDriven P run × (length run ≤ bound)) → Known (IsEnded P (state_after P es)) → (run : List Entry) × IsDriven P run × (length run ≤ bound)
+      go more (inl e) = (es, record { driven = d; ended = e }, most es (driven_legal P es (opening P) d))
       go more (inr on) = let (x, next) = goes_on P well at es d on in more x next
 
-  pub ends : (bound : ℕ) → ((es : List Entry) → IsHistory P es → length es ≤ bound) → (run : List Entry) × IsDriven P run
+  pub ends : (bound : ℕ) → ((es : List Entry) → IsHistory P es → length es ≤ bound) → (run : List Entry) × IsDriven P run × (length run ≤ bound)
   ends bound most = ends_within bound most (suc bound) [] tt (omega arith)

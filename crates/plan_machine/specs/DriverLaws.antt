@@ -7,7 +7,8 @@ use Rattle.plan_machine.specs.Enabled.{Enabled}
 use Rattle.plan_machine.specs.After.{after}
 use Rattle.plan_machine.specs.History.{replay, IsLegal, IsHistory, state_after, IsEnded, HasFailed, peak}
 use Rattle.plan_machine.specs.Driver.{NoUpkeep, CanWork, IsDriverEntry, IsDrivenFrom, IsDriven}
-use Rattle.plan_machine.specs.WellFormed.{WellFormed}
+use Rattle.plan_machine.specs.WellFormed.{Lawful, WellFormed}
+use Rattle.plan_machine.specs.Budget.{IsBudget, most}
 
 -- What a history becomes by one more entry: its state goes on from the state before, its peaks grow by
 -- what then waits, and it stays legal, or driven, where the entry was enabled, or the driver's.
@@ -55,8 +56,8 @@ DriverGoesOn R =
 abbrev pub DriverIsDetermined : Type 0 → Type 0
 DriverIsDetermined R = (P : Plan R) (es es' : List Entry) → IsDriven P es → IsDriven P es' → es ≡ es'
 
--- The driver comes to an end: where no history is longer than some bound, it gives a history that ends.
+-- The driver comes to an end: it gives a history that ends, with at most `most` entries.
 abbrev pub DriverEnds : Type 0 → Type 0
 DriverEnds R =
-    (P : Plan R) → WellFormed P → IsWorker P 1 → (bound : ℕ) → ((es : List Entry) → IsHistory P es → length es ≤ bound)
-    → (es : List Entry) × IsDriven P es
+    (P : Plan R) → Lawful P → WellFormed P → IsWorker P 1 → (rows batches : ℕ → ℕ) → IsBudget P rows batches
+    → (es : List Entry) × IsDriven P es × (length es ≤ most P batches)

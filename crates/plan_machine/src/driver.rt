@@ -37,7 +37,30 @@ pub fn some_entry_enabled<R>()
     ensures { SomeEntryEnabled R }
 {}
 
-/// Where no history is longer than some bound, the lone driver comes to the end of its run.
+/// The lone driver comes to the end of its run, after at most `most` entries.
 pub fn driver_ends<R>()
     ensures { DriverEnds R }
 {}
+
+#[cfg(test)]
+mod tests {
+    use super::*;
+    use crate::limits::{bounded, never_stuck, premises_can_be_met, stopping_premises_can_be_met};
+
+    // each law at rows of one type
+    #[test]
+    fn laws_are_cited() {
+        bounded::<u64>();
+        never_stuck::<u64>();
+        premises_can_be_met();
+        stopping_premises_can_be_met();
+        history_grows::<u64>();
+        some_entry_enabled::<u64>();
+        driver_is_legal::<u64>();
+        driver_is_alone::<u64>();
+        driver_is_determined::<u64>();
+        driver_can_claim::<u64>();
+        driver_goes_on::<u64>();
+        driver_ends::<u64>();
+    }
+}
