@@ -18,7 +18,8 @@ use Rattle.plan_machine.proofs.Value.{whole_of, remains_of, all_streamed, stream
 use Rattle.plan_machine.proofs.Pass.{fold_kept, folding-same, tails-set}
 use Rattle.plan_machine.proofs.Turn.{folds_input, streams_input, folded_all}
 use Rattle.plan_machine.proofs.Flight.{ends, flying, flying-more, flying-alone, none-flying, locals-change}
-use Rattle.plan_machine.proofs.Fit.{phase_of, TaskFits, TaskFit, Fit, Local}
+use Rattle.plan_machine.specs.InFlight.{phase_of, TaskFits, TaskFit}
+use Rattle.plan_machine.proofs.Fit.{Fit, Local}
 use Rattle.plan_machine.proofs.Moved.{Moved, none-new, given-weigh, held-weigh, fits-same, claim-elsewhere, claim-here, claim-flight}
 
 -- a batch that was to come is now in flight
@@ -47,7 +48,7 @@ empty_short xs p e l = let z = ap length e in absurd (omega arith)
 
 module _ {R : Type 0} (P : Plan R) (L : Lawful P) (W : WellFormed P) where
   -- the edge that a seal or a closing waits for has ended, so no batch waits there
-  pub seal_ended : (s : State R) (m v : ℕ) (u : Task R) (j : Job) → TaskFits P L W s m v u j → ends j ≡ 1 → phase_of j ≡ Folding → s.waiting (folds_from P m) ≡ []
+  pub seal_ended : (s : State R) (m v : ℕ) (u : Task R) (j : Job) → TaskFits P s m v u j → ends j ≡ 1 → phase_of j ≡ Folding → s.waiting (folds_from P m) ≡ []
   seal_ended s m v u Emit f e p = cc
   seal_ended s m v u Fold f e p = cc
   seal_ended s m v u Seal f e p = f.2.1
@@ -55,7 +56,7 @@ module _ {R : Type 0} (P : Plan R) (L : Lawful P) (W : WellFormed P) where
   seal_ended s m v u Close f e p = cc
   seal_ended s m v u Tail f e p = cc
 
-  pub close_ended : (s : State R) (m v : ℕ) (u : Task R) (j : Job) → TaskFits P L W s m v u j → ends j ≡ 1 → phase_of j ≡ Streaming → s.waiting (streams_from P m) ≡ []
+  pub close_ended : (s : State R) (m v : ℕ) (u : Task R) (j : Job) → TaskFits P s m v u j → ends j ≡ 1 → phase_of j ≡ Streaming → s.waiting (streams_from P m) ≡ []
   close_ended s m v u Emit f e p = cc
   close_ended s m v u Fold f e p = cc
   close_ended s m v u Seal f e p = cc
@@ -82,7 +83,7 @@ module _ {R : Type 0} (P : Plan R) (L : Lawful P) (W : WellFormed P) where
         omega arith
 
     -- a claim that only counts
-    count-local : (t : Task R) (s' : State R) → t.node ≡ n → (s.phase n ≡ Emitting) ⊎ (s.phase n ≡ Tailing) → (s'.tasks ≡ upd s.tasks w (Some t)) → s'.phase ≡ s.phase → s'.locals ≡ s.locals → s'.built ≡ s.built → phase_of t.job ≡ s.phase n → TaskFits P L W s' n w t t.job → Local P L W s s' n []
+    count-local : (t : Task R) (s' : State R) → t.node ≡ n → (s.phase n ≡ Emitting) ⊎ (s.phase n ≡ Tailing) → (s'.tasks ≡ upd s.tasks w (Some t)) → s'.phase ≡ s.phase → s'.locals ≡ s.locals → s'.built ≡ s.built → phase_of t.job ≡ s.phase n → TaskFits P s' n w t t.job → Local P L W s s' n []
     count-local t s' e q ts ph lo bu j f =
         record {
           folding = λ p. F.started.folding n Y.node (sym (ap (λ (g : ℕ → Phase). g n) ph) ∙ p);
@@ -91,7 +92,7 @@ module _ {R : Type 0} (P : Plan R) (L : Lawful P) (W : WellFormed P) where
           next_stream = λ p. absurd (neither Streaming p (λ x. cc) (λ x. cc));
           from_fold = λ p x. absurd (neither Folding p (λ x. cc) (λ x. cc));
           here = λ v u iv b e'. elim (claim-here P L W s.tasks w t v u (sym (ap (λ (g : ℕ → Option (Task R)). g v) ts) ∙ b)) [
-            | inl z ↦ subst (λ (k : ℕ). TaskFit P L W s' k u) (sym z.0) (subst (λ (x : Task R). TaskFit P L W s' w x) z.1 (new_fits t e j f))
+            | inl z ↦ subst (λ (k : ℕ). TaskFit P s' k u) (sym z.0) (subst (λ (x : Task R). TaskFit P s' w x) z.1 (new_fits t e j f))
             | inr z ↦ fits-same P L W s s' v u (ap (λ (g : ℕ → Phase). g u.node) ph) (ap (λ (g : ℕ → ℕ → List (Batch R)). g u.node v) lo) (ap (λ (g : ℕ → List R). g u.node) bu)
                 (λ g. not_ends u.job (s.phase n) (sym g.0 ∙ ap s.phase e') q) (F.tasks v u iv z.1)
           ];
@@ -104,9 +105,9 @@ module _ {R : Type 0} (P : Plan R) (L : Lawful P) (W : WellFormed P) where
             let x : s.phase n ≡ r = sym (ap (λ (g : ℕ → Phase). g n) ph) ∙ p in
             elim q [ inl y ↦ a (sym x ∙ y) | inr y ↦ b (sym x ∙ y) ]
 
-        new_fits : (x : Task R) → x.node ≡ n → phase_of x.job ≡ s.phase n → TaskFits P L W s' n w x x.job → TaskFit P L W s' w x
+        new_fits : (x : Task R) → x.node ≡ n → phase_of x.job ≡ s.phase n → TaskFits P s' n w x x.job → TaskFit P s' w x
         new_fits x e j f =
-            let Q : ℕ → Type 0 = λ m. IsNode P m × ((s'.phase m ≡ Done) ⊎ ((s'.phase m ≡ phase_of x.job) × TaskFits P L W s' m w x x.job)) in
+            let Q : ℕ → Type 0 = λ m. IsNode P m × ((s'.phase m ≡ Done) ⊎ ((s'.phase m ≡ phase_of x.job) × TaskFits P s' m w x x.job)) in
             subst Q (sym e) (Y.node, inr (ap (λ (g : ℕ → Phase). g n) ph ∙ sym j, f))
 
     pub emit-moved : (k : ℕ) → CanDo P s n Emit k → Moved P L W s (claimed P s w n Emit k) n []
@@ -220,7 +221,7 @@ module _ {R : Type 0} (P : Plan R) (L : Lawful P) (W : WellFormed P) where
             next_stream = λ q. F.next_stream n Y.node q;
             from_fold = λ q j. ap (weigh (λ b. b.from)) (upd-else s.waiting fold_edge (without p (s.waiting fold_edge)) (streams_from P n) (two_edges fold_folds (inr (fold_folds, j)))) ∙ F.from_fold n Y.node q j;
             here = λ v u iv b e. elim (claim-here P L W s.tasks w fold_task v u b) [
-              | inl z ↦ subst (λ (k : ℕ). TaskFit P L W fold_after k u) (sym z.0) (subst (λ (x : Task R). TaskFit P L W fold_after w x) z.1 (Y.node, inr (c.0, left-here n refl)))
+              | inl z ↦ subst (λ (k : ℕ). TaskFit P fold_after k u) (sym z.0) (subst (λ (x : Task R). TaskFit P fold_after w x) z.1 (Y.node, inr (c.0, left-here n refl)))
               | inr z ↦ fits-same P L W s fold_after v u refl (left-else u.node v e z.0) refl
                   (λ g ends. empty_short (s.waiting fold_edge) p (ap (λ k. s.waiting (folds_from P k)) (sym e) ∙ seal_ended s u.node v u u.job g.1 ends (sym g.0 ∙ ap s.phase e ∙ c.0)) c.1) (F.tasks v u iv z.1)
             ];
@@ -274,7 +275,7 @@ module _ {R : Type 0} (P : Plan R) (L : Lawful P) (W : WellFormed P) where
             next_stream = λ q. F.next_stream n Y.node q;
             from_fold = λ q j. F.from_fold n Y.node q j;
             here = λ v u iv b e. elim (claim-here P L W s.tasks w seal_task v u b) [
-              | inl z ↦ subst (λ (k : ℕ). TaskFit P L W seal_after k u) (sym z.0) (subst (λ (x : Task R). TaskFit P L W seal_after w x) z.1 (Y.node, inr (c.0, (flying-alone P s.tasks w seal_task n Y.worker refl c.1, emptied-none, c.2))))
+              | inl z ↦ subst (λ (k : ℕ). TaskFit P seal_after k u) (sym z.0) (subst (λ (x : Task R). TaskFit P seal_after w x) z.1 (Y.node, inr (c.0, (flying-alone P s.tasks w seal_task n Y.worker refl c.1, emptied-none, c.2))))
               | inr z ↦ absurd (none-flying P s.tasks n c.1 v u iv z.1 e)
             ];
             elsewhere = λ v u iv b ne. claim-elsewhere P L W s.tasks w seal_task v u b ne;
@@ -357,7 +358,7 @@ module _ {R : Type 0} (P : Plan R) (L : Lawful P) (W : WellFormed P) where
             next_stream = λ q. F.next_stream n Y.node q;
             from_fold = λ q j. let z = sym c.0 ∙ q in cc;
             here = λ v u iv b e. elim (claim-here P L W s.tasks w stream_task v u b) [
-              | inl z ↦ subst (λ (k : ℕ). TaskFit P L W stream_after k u) (sym z.0) (subst (λ (x : Task R). TaskFit P L W stream_after w x) z.1 (Y.node, inr (c.0, (refl, left-here n refl))))
+              | inl z ↦ subst (λ (k : ℕ). TaskFit P stream_after k u) (sym z.0) (subst (λ (x : Task R). TaskFit P stream_after w x) z.1 (Y.node, inr (c.0, (refl, left-here n refl))))
               | inr z ↦ fits-same P L W s stream_after v u refl (left-else u.node v e z.0) refl
                   (λ g ends. empty_short (s.waiting stream_edge) p (ap (λ k. s.waiting (streams_from P k)) (sym e) ∙ close_ended s u.node v u u.job g.1 ends (sym g.0 ∙ ap s.phase e ∙ c.0)) c.1) (F.tasks v u iv z.1)
             ];
@@ -421,7 +422,7 @@ module _ {R : Type 0} (P : Plan R) (L : Lawful P) (W : WellFormed P) where
             next_stream = λ q. F.next_stream n Y.node q;
             from_fold = λ q j. let z = sym c.0 ∙ q in cc;
             here = λ v u iv b e. elim (claim-here P L W s.tasks w close_task v u b) [
-              | inl z ↦ subst (λ (k : ℕ). TaskFit P L W close_after k u) (sym z.0) (subst (λ (x : Task R). TaskFit P L W close_after w x) z.1 (Y.node, inr (c.0, (flying-alone P s.tasks w close_task n Y.worker refl c.1, emptied-none, c.2, c.4))))
+              | inl z ↦ subst (λ (k : ℕ). TaskFit P close_after k u) (sym z.0) (subst (λ (x : Task R). TaskFit P close_after w x) z.1 (Y.node, inr (c.0, (flying-alone P s.tasks w close_task n Y.worker refl c.1, emptied-none, c.2, c.4))))
               | inr z ↦ absurd (none-flying P s.tasks n c.1 v u iv z.1 e)
             ];
             elsewhere = λ v u iv b ne. claim-elsewhere P L W s.tasks w close_task v u b ne;

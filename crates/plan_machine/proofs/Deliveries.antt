@@ -22,7 +22,8 @@ use Rattle.plan_machine.proofs.Value.{whole_of, remains_of, Coming, all_streamed
 use Rattle.plan_machine.proofs.Pass.{fold_kept, folding-same, tails-set, fresh-remains, true_or_false}
 use Rattle.plan_machine.proofs.Turn.{new_at, Known, folds_input, streams_input, folded_all}
 use Rattle.plan_machine.proofs.Flight.{ends, works, flying, flying-less, flying-has, flying-gone, none-flying, locals-change}
-use Rattle.plan_machine.proofs.Fit.{phase_of, TaskFits, InPhase, Fit, Local, Around}
+use Rattle.plan_machine.specs.InFlight.{phase_of, TaskFits, InPhase}
+use Rattle.plan_machine.proofs.Fit.{Fit, Local, Around}
 use Rattle.plan_machine.proofs.Moved.{Moved, none-new, given-weigh, held-weigh, fits-same, done-here, done-flight}
 use Rattle.plan_machine.proofs.Claims.{not_ends}
 
@@ -40,7 +41,7 @@ only_one x y z u k a b c d = rw (a, b, c, d) (append-nil (k ++ []) ∙ append-ni
 
 module _ {R : Type 0} (P : Plan R) (L : Lawful P) (W : WellFormed P) where
   -- a seal or a closing is alone at its node
-  alone_of : (s : State R) (m v : ℕ) (u : Task R) (j : Job) → TaskFits P L W s m v u j → ends j ≡ 1 → flying P s.tasks m ≡ u ∷ []
+  alone_of : (s : State R) (m v : ℕ) (u : Task R) (j : Job) → TaskFits P s m v u j → ends j ≡ 1 → flying P s.tasks m ≡ u ∷ []
   alone_of s m v u Emit f e = cc
   alone_of s m v u Fold f e = cc
   alone_of s m v u Seal f e = f.0
@@ -206,7 +207,7 @@ module _ {R : Type 0} (P : Plan R) (L : Lawful P) (W : WellFormed P) where
         omega arith
 
     -- where the task folds or streams, no seal and no closing is in flight
-    none_ends : works t.job ≡ 1 → (v : ℕ) (u : Task R) → u.node ≡ a → InPhase P L W s u.node v u → ends u.job ≡ 1 → ⊥
+    none_ends : works t.job ≡ 1 → (v : ℕ) (u : Task R) → u.node ≡ a → InPhase P s u.node v u → ends u.job ≡ 1 → ⊥
     none_ends o v u e g z =
         let x = alone_of s u.node v u u.job g.1 z in
         let y : flying P s.tasks a ≡ u ∷ [] = sym (ap (flying P s.tasks) e) ∙ x in
@@ -254,7 +255,7 @@ module _ {R : Type 0} (P : Plan R) (L : Lawful P) (W : WellFormed P) where
         }
 
     -- A Seal: the node's rows are those of all batches that it folded.
-    module _ (jb : t.job ≡ Seal) (p : s.phase a ≡ Folding) (x : TaskFits P L W s a w t Seal) where
+    module _ (jb : t.job ≡ Seal) (p : s.phase a ≡ Folding) (x : TaskFits P s a w t Seal) where
       abbrev seal_after : State R
       seal_after = landed P s w t Seal
 
@@ -403,7 +404,7 @@ module _ {R : Type 0} (P : Plan R) (L : Lawful P) (W : WellFormed P) where
           ]
 
     -- A Close: the batches that the node streamed are those of all workers.
-    module _ (jb : t.job ≡ Close) (p : s.phase a ≡ Streaming) (x : TaskFits P L W s a w t Close) where
+    module _ (jb : t.job ≡ Close) (p : s.phase a ≡ Streaming) (x : TaskFits P s a w t Close) where
       abbrev close_after : State R
       close_after = landed P s w t Close
 
@@ -468,7 +469,7 @@ module _ {R : Type 0} (P : Plan R) (L : Lawful P) (W : WellFormed P) where
           }
 
     -- A Stream: a part of the batch's output is given, and what is left goes back.
-    module _ (jb : t.job ≡ Stream) (p : s.phase a ≡ Streaming) (x : TaskFits P L W s a w t Stream) where
+    module _ (jb : t.job ≡ Stream) (p : s.phase a ≡ Streaming) (x : TaskFits P s a w t Stream) where
       abbrev stream_after : State R
       stream_after = landed P s w t Stream
 
@@ -626,7 +627,7 @@ module _ {R : Type 0} (P : Plan R) (L : Lawful P) (W : WellFormed P) where
     new_of Close = []
     new_of Tail = tail_new ∷ []
 
-    pub landed-moved : (j : Job) → t.job ≡ j → s.phase a ≡ phase_of j → TaskFits P L W s a w t j → Moved P L W s (landed P s w t j) t.node (new_of j)
+    pub landed-moved : (j : Job) → t.job ≡ j → s.phase a ≡ phase_of j → TaskFits P s a w t j → Moved P L W s (landed P s w t j) t.node (new_of j)
     landed-moved Emit e p x = emit-landed e p
     landed-moved Fold e p x = fold-landed e p x
     landed-moved Seal e p x = seal-landed e p x

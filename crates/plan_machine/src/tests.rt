@@ -2,7 +2,7 @@
 
 use crate::{
     Entry, Job, OpShape, Phase, first_phase, is_upkeep, meaning_is_whole, no_more_entries,
-    part_count, phase_after_seal, rows_kept,
+    part_count, phase_after_seal, rows_kept, tasks_fit,
 };
 
 // filter, aggregate, sink and full join
@@ -71,5 +71,6 @@ fn upkeep(rt: HostRuntime) {
 fn laws_are_cited() {
     meaning_is_whole::<u64>();
     rows_kept::<u64>();
+    tasks_fit::<u64>();
     no_more_entries::<u64>();
 }
