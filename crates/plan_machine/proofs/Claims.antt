@@ -18,7 +18,8 @@ use Rattle.plan_machine.proofs.Value.{whole_of, remains_of, all_streamed, stream
 use Rattle.plan_machine.proofs.Pass.{fold_kept, folding-same, tails-set}
 use Rattle.plan_machine.proofs.Turn.{folds_input, streams_input, folded_all}
 use Rattle.plan_machine.proofs.Flight.{ends, flying, flying-more, flying-alone, none-flying, locals-change}
-use Rattle.plan_machine.proofs.Fit.{phase_of, TaskFits, TaskFit, Fit, Local}
+use Rattle.plan_machine.specs.InFlight.{phase_of, TaskFits, TaskFit}
+use Rattle.plan_machine.proofs.Fit.{Fit, Local}
 use Rattle.plan_machine.proofs.Moved.{Moved, none-new, given-weigh, held-weigh, fits-same, claim-elsewhere, claim-here, claim-flight}
 
 -- a batch that was to come is now in flight
@@ -47,7 +48,7 @@ empty_short xs p e l = let z = ap length e in absurd (omega arith)
 
 module _ {R : Type 0} (P : Plan R) (L : Lawful P) (W : WellFormed P) where
   -- the edge that a seal or a closing waits for has ended, so no batch waits there
-  pub seal_ended : (s : State R) (m v : ℕ) (u : Task R) (j : Job) → TaskFits P L W s m v u j → ends j ≡ 1 → phase_of j ≡ Folding → s.waiting (folds_from P m) ≡ []
+  pub seal_ended : (s : State R) (m v : ℕ) (u : Task R) (j : Job) → TaskFits P s m v u j → ends j ≡ 1 → phase_of j ≡ Folding → s.waiting (folds_from P m) ≡ []
   seal_ended s m v u Emit f e p = cc
   seal_ended s m v u Fold f e p = cc
   seal_ended s m v u Seal f e p = f.2.1
@@ -55,7 +56,7 @@ module _ {R : Type 0} (P : Plan R) (L : Lawful P) (W : WellFormed P) where
   seal_ended s m v u Close f e p = cc
   seal_ended s m v u Tail f e p = cc
 
-  pub close_ended : (s : State R) (m v : ℕ) (u : Task R) (j : Job) → TaskFits P L W s m v u j → ends j ≡ 1 → phase_of j ≡ Streaming → s.waiting (streams_from P m) ≡ []
+  pub close_ended : (s : State R) (m v : ℕ) (u : Task R) (j : Job) → TaskFits P s m v u j → ends j ≡ 1 → phase_of j ≡ Streaming → s.waiting (streams_from P m) ≡ []
   close_ended s m v u Emit f e p = cc
   close_ended s m v u Fold f e p = cc
   close_ended s m v u Seal f e p = cc
@@ -82,7 +83,7 @@ module _ {R : Type 0} (P : Plan R) (L : Lawful P) (W : WellFormed P) where
         omega arith
 
     -- a claim that only counts
-    count-local : (t : Task R) (s' : State R) → t.node ≡ n → (s.phase n ≡ Emitting) ⊎ (s.phase n ≡ Tailing) → (s'.tasks ≡ upd s.tasks w (Some t)) → s'.phase ≡ s.phase → s'.locals ≡ s.locals → s'.built ≡ s.built → phase_of t.job ≡ s.phase n → TaskFits P L W s' n w t t.job → Local P L W s s' n []
+    count-local : (t : Task R) (s' : State R) → t.node ≡ n → (s.phase n ≡ Emitting) ⊎ (s.phase n ≡ Tailing) → (s'.tasks ≡ upd s.tasks w (Some t)) → s'.phase ≡ s.phase → s'.locals ≡ s.locals → s'.built ≡ s.built → phase_of t.job ≡ s.phase n → TaskFits P s' n w t t.job → Local P L W s s' n []
     count-local t s' e q ts ph lo bu j f =
         record {
           folding = λ p. F.started.folding n Y.node (sym (ap (λ (g : ℕ → Phase). g n) ph) ∙ p);
@@ -91,7 +92,7 @@ module _ {R : Type 0} (P : Plan R) (L : Lawful P) (W : WellFormed P) where
           next_stream = λ p. absurd (neither Streaming p (λ x. cc) (λ x. cc));
           from_fold = λ p x. absurd (neither Folding p (λ x. cc) (λ x. cc));
           here = λ v u iv b e'. elim (claim-here P L W s.tasks w t v u (sym (ap (λ (g : ℕ → Option (Task R)). g v) ts) ∙ b)) [
-            | inl z ↦ subst (λ (k : ℕ). TaskFit P L W s' k u) (sym z.0) (subst (λ (x : Task R). TaskFit P L W s' w x) z.1 (new_fits t e j f))
+            | inl z ↦ subst (λ (k : ℕ). TaskFit P s' k u) (sym z.0) (subst (λ (x : Task R). TaskFit P s' w x) z.1 (new_fits t e j f))
             | inr z ↦ fits-same P L W s s' v u (ap (λ (g : ℕ → Phase). g u.node) ph) (ap (λ (g : ℕ → ℕ → List (Batch R)). g u.node v) lo) (ap (λ (g : ℕ → List R). g u.node) bu)
                 (λ g. not_ends u.job (s.phase n) (sym g.0 ∙ ap s.phase e') q) (F.tasks v u iv z.1)
           ];
@@ -104,9 +105,9 @@ module _ {R : Type 0} (P : Plan R) (L : Lawful P) (W : WellFormed P) where
             let x : s.phase n ≡ r = sym (ap (λ (g : ℕ → Phase). g n) ph) ∙ p in
             elim q [ inl y ↦ a (sym x ∙ y) | inr y ↦ b (sym x ∙ y) ]
 
-        new_fits : (x : Task R) → x.node ≡ n → phase_of x.job ≡ s.phase n → TaskFits P L W s' n w x x.job → TaskFit P L W s' w x
+        new_fits : (x : Task R) → x.node ≡ n → phase_of x.job ≡ s.phase n → TaskFits P s' n w x x.job → TaskFit P s' w x
         new_fits x e j f =
-            let Q : ℕ → Type 0 = λ m. IsNode P m × ((s'.phase m ≡ Done) ⊎ ((s'.phase m ≡ phase_of x.job) × TaskFits P L W s' m w x x.job)) in
+            let Q : ℕ → Type 0 = λ m. IsNode P m × ((s'.phase m ≡ Done) ⊎ ((s'.phase m ≡ phase_of x.job) × TaskFits P s' m w x x.job)) in
             subst Q (sym e) (Y.node, inr (ap (λ (g : ℕ → Phase). g n) ph ∙ sym j, f))
 
     pub emit-moved : (k : ℕ) → CanDo P s n Emit k → Moved P L W s (claimed P s w n Emit k) n []
@@ -188,47 +189,47 @@ module _ {R : Type 0} (P : Plan R) (L : Lawful P) (W : WellFormed P) where
     two_edges f (inr j) = λ e. (W.nodes n Y.node).apart j (e ∙ (let z = j.1 in rw z refl))
 
     module _ (p : ℕ) (c : CanDo P s n Fold p) where
-      abbrev e1 : ℕ
-      e1 = folds_from P n
+      abbrev fold_edge : ℕ
+      fold_edge = folds_from P n
 
-      abbrev t1 : Task R
-      t1 = task_of s n Fold p (at_or blank p (s.waiting e1)) (s.locals n w)
+      abbrev fold_task : Task R
+      fold_task = task_of s n Fold p (at_or blank p (s.waiting fold_edge)) (s.locals n w)
 
-      abbrev s1 : State R
-      s1 = claimed P s w n Fold p
+      abbrev fold_after : State R
+      fold_after = claimed P s w n Fold p
 
-      f1 : Folds (P.node n)
-      f1 = F.started.folding n Y.node c.0
+      fold_folds : Folds (P.node n)
+      fold_folds = F.started.folding n Y.node c.0
 
-      folded1 : (f : ℕ → List (Batch R)) (H : Batch R → ℕ) → weigh H (folded_all P L W s f n) ≡ weigh H (folded_all P L W s1 f n)
-      folded1 f H =
-          let a = held-taken H t1 refl refl in
-          let b = weigh-without H blank p (s.waiting e1) c.1 in
-          let d = ap (weigh H) (upd-here s.waiting e1 (without p (s.waiting e1))) in
-          let x = weigh-append H (view P s n).held (s.waiting e1 ++ f e1) in
-          let x' = weigh-append H (view P s1 n).held (s1.waiting e1 ++ f e1) in
-          let y = weigh-append H (s.waiting e1) (f e1) in
-          let y' = weigh-append H (s1.waiting e1) (f e1) in
+      fold_all_same : (f : ℕ → List (Batch R)) (H : Batch R → ℕ) → weigh H (folded_all P L W s f n) ≡ weigh H (folded_all P L W fold_after f n)
+      fold_all_same f H =
+          let a = held-taken H fold_task refl refl in
+          let b = weigh-without H blank p (s.waiting fold_edge) c.1 in
+          let d = ap (weigh H) (upd-here s.waiting fold_edge (without p (s.waiting fold_edge))) in
+          let x = weigh-append H (view P s n).held (s.waiting fold_edge ++ f fold_edge) in
+          let x' = weigh-append H (view P fold_after n).held (fold_after.waiting fold_edge ++ f fold_edge) in
+          let y = weigh-append H (s.waiting fold_edge) (f fold_edge) in
+          let y' = weigh-append H (fold_after.waiting fold_edge) (f fold_edge) in
           omega arith
 
-      local1 : Local P L W s s1 n []
-      local1 =
+      fold_local : Local P L W s fold_after n []
+      fold_local =
           record {
             folding = λ q. F.started.folding n Y.node q;
             streaming = λ q. F.started.streaming n Y.node q;
             next_fold = λ q. F.next_fold n Y.node q;
             next_stream = λ q. F.next_stream n Y.node q;
-            from_fold = λ q j. ap (weigh (λ b. b.from)) (upd-else s.waiting e1 (without p (s.waiting e1)) (streams_from P n) (two_edges f1 (inr (f1, j)))) ∙ F.from_fold n Y.node q j;
-            here = λ v u iv b e. elim (claim-here P L W s.tasks w t1 v u b) [
-              | inl z ↦ subst (λ (k : ℕ). TaskFit P L W s1 k u) (sym z.0) (subst (λ (x : Task R). TaskFit P L W s1 w x) z.1 (Y.node, inr (c.0, left-here n refl)))
-              | inr z ↦ fits-same P L W s s1 v u refl (left-else u.node v e z.0) refl
-                  (λ g ends. empty_short (s.waiting e1) p (ap (λ k. s.waiting (folds_from P k)) (sym e) ∙ seal_ended s u.node v u u.job g.1 ends (sym g.0 ∙ ap s.phase e ∙ c.0)) c.1) (F.tasks v u iv z.1)
+            from_fold = λ q j. ap (weigh (λ b. b.from)) (upd-else s.waiting fold_edge (without p (s.waiting fold_edge)) (streams_from P n) (two_edges fold_folds (inr (fold_folds, j)))) ∙ F.from_fold n Y.node q j;
+            here = λ v u iv b e. elim (claim-here P L W s.tasks w fold_task v u b) [
+              | inl z ↦ subst (λ (k : ℕ). TaskFit P fold_after k u) (sym z.0) (subst (λ (x : Task R). TaskFit P fold_after w x) z.1 (Y.node, inr (c.0, left-here n refl)))
+              | inr z ↦ fits-same P L W s fold_after v u refl (left-else u.node v e z.0) refl
+                  (λ g ends. empty_short (s.waiting fold_edge) p (ap (λ k. s.waiting (folds_from P k)) (sym e) ∙ seal_ended s u.node v u u.job g.1 ends (sym g.0 ∙ ap s.phase e ∙ c.0)) c.1) (F.tasks v u iv z.1)
             ];
-            elsewhere = λ v u iv b ne. claim-elsewhere P L W s.tasks w t1 v u b ne;
+            elsewhere = λ v u iv b ne. claim-elsewhere P L W s.tasks w fold_task v u b ne;
             live = λ d. let z = sym c.0 ∙ d in cc;
           }
 
-      pub fold-moved : Moved P L W s s1 n []
+      pub fold-moved : Moved P L W s fold_after n []
       fold-moved =
           record {
             fresh = refl;
@@ -238,50 +239,50 @@ module _ {R : Type 0} (P : Plan R) (L : Lawful P) (W : WellFormed P) where
             after = c.0;
             around =
                 record {
-                  others = λ m im ne. record { phase = refl; locals = sym (upd-else s.locals n (upd (s.locals n) w []) m ne); built = refl; streamed = refl; next = refl; flight = claim-flight P L W s.tasks w t1 m Y.free ne };
-                  added = λ e ie ne. upd-else s.waiting e1 (without p (s.waiting e1)) e (λ q. ne (ap P.user q ∙ (folds_input P W n Y.node f1).user)) ∙ none-new P L W n e (s.waiting e);
+                  others = λ m im ne. record { phase = refl; locals = sym (upd-else s.locals n (upd (s.locals n) w []) m ne); built = refl; streamed = refl; next = refl; flight = claim-flight P L W s.tasks w fold_task m Y.free ne };
+                  added = λ e ie ne. upd-else s.waiting fold_edge (without p (s.waiting fold_edge)) e (λ q. ne (ap P.user q ∙ (folds_input P W n Y.node fold_folds).user)) ∙ none-new P L W n e (s.waiting e);
                 };
-            local = local1;
-            gives = λ f K. folding-same P L W n Y.node (view P s n) (view P s1 n) (coming P s f n) (coming P s1 f n) f1 (λ H t. folded1 f H) (K.distinct c.0)
-                (λ st H t. ap (λ (x : List (Batch R)). weigh H (x ++ f (streams_from P n))) (sym (upd-else s.waiting e1 (without p (s.waiting e1)) (streams_from P n) (two_edges f1 st)))) refl;
-            base = λ f K. gathered-same L.equality (fold_kept P L W n) (folded_all P L W s f n) (folded_all P L W s1 f n) (λ H t. folded1 f H) (K.distinct c.0);
-            folds = λ f q. (refl, λ H t. folded1 f H);
+            local = fold_local;
+            gives = λ f K. folding-same P L W n Y.node (view P s n) (view P fold_after n) (coming P s f n) (coming P fold_after f n) fold_folds (λ H t. fold_all_same f H) (K.distinct c.0)
+                (λ st H t. ap (λ (x : List (Batch R)). weigh H (x ++ f (streams_from P n))) (sym (upd-else s.waiting fold_edge (without p (s.waiting fold_edge)) (streams_from P n) (two_edges fold_folds st)))) refl;
+            base = λ f K. gathered-same L.equality (fold_kept P L W n) (folded_all P L W s f n) (folded_all P L W fold_after f n) (λ H t. fold_all_same f H) (K.distinct c.0);
+            folds = λ f q. (refl, λ H t. fold_all_same f H);
           }
 
     module _ (k : ℕ) (c : CanDo P s n Seal k) where
-      abbrev t2 : Task R
-      t2 = task_of s n Seal k blank (gather P.workers (s.locals n))
+      abbrev seal_task : Task R
+      seal_task = task_of s n Seal k blank (gather P.workers (s.locals n))
 
-      abbrev s2 : State R
-      s2 = claimed P s w n Seal k
+      abbrev seal_after : State R
+      seal_after = claimed P s w n Seal k
 
-      f2 : Folds (P.node n)
-      f2 = F.started.folding n Y.node c.0
+      seal_folds : Folds (P.node n)
+      seal_folds = F.started.folding n Y.node c.0
 
-      folded2 : (f : ℕ → List (Batch R)) (H : Batch R → ℕ) → weigh H (folded_all P L W s f n) ≡ weigh H (folded_all P L W s2 f n)
-      folded2 f H =
-          let a = held-moved H t2 refl refl in
+      seal_all_same : (f : ℕ → List (Batch R)) (H : Batch R → ℕ) → weigh H (folded_all P L W s f n) ≡ weigh H (folded_all P L W seal_after f n)
+      seal_all_same f H =
+          let a = held-moved H seal_task refl refl in
           let x = weigh-append H (view P s n).held (s.waiting (folds_from P n) ++ f (folds_from P n)) in
-          let x' = weigh-append H (view P s2 n).held (s.waiting (folds_from P n) ++ f (folds_from P n)) in
+          let x' = weigh-append H (view P seal_after n).held (s.waiting (folds_from P n) ++ f (folds_from P n)) in
           omega arith
 
-      local2 : Local P L W s s2 n []
-      local2 =
+      seal_local : Local P L W s seal_after n []
+      seal_local =
           record {
             folding = λ q. F.started.folding n Y.node q;
             streaming = λ q. F.started.streaming n Y.node q;
             next_fold = λ q. F.next_fold n Y.node q;
             next_stream = λ q. F.next_stream n Y.node q;
             from_fold = λ q j. F.from_fold n Y.node q j;
-            here = λ v u iv b e. elim (claim-here P L W s.tasks w t2 v u b) [
-              | inl z ↦ subst (λ (k : ℕ). TaskFit P L W s2 k u) (sym z.0) (subst (λ (x : Task R). TaskFit P L W s2 w x) z.1 (Y.node, inr (c.0, (flying-alone P s.tasks w t2 n Y.worker refl c.1, emptied-none, c.2))))
+            here = λ v u iv b e. elim (claim-here P L W s.tasks w seal_task v u b) [
+              | inl z ↦ subst (λ (k : ℕ). TaskFit P seal_after k u) (sym z.0) (subst (λ (x : Task R). TaskFit P seal_after w x) z.1 (Y.node, inr (c.0, (flying-alone P s.tasks w seal_task n Y.worker refl c.1, emptied-none, c.2))))
               | inr z ↦ absurd (none-flying P s.tasks n c.1 v u iv z.1 e)
             ];
-            elsewhere = λ v u iv b ne. claim-elsewhere P L W s.tasks w t2 v u b ne;
+            elsewhere = λ v u iv b ne. claim-elsewhere P L W s.tasks w seal_task v u b ne;
             live = λ d. let z = sym c.0 ∙ d in cc;
           }
 
-      pub seal-moved : Moved P L W s s2 n []
+      pub seal-moved : Moved P L W s seal_after n []
       seal-moved =
           record {
             fresh = refl;
@@ -291,81 +292,81 @@ module _ {R : Type 0} (P : Plan R) (L : Lawful P) (W : WellFormed P) where
             after = c.0;
             around =
                 record {
-                  others = λ m im ne. record { phase = refl; locals = sym (upd-else s.locals n (λ _. []) m ne); built = refl; streamed = refl; next = refl; flight = claim-flight P L W s.tasks w t2 m Y.free ne };
+                  others = λ m im ne. record { phase = refl; locals = sym (upd-else s.locals n (λ _. []) m ne); built = refl; streamed = refl; next = refl; flight = claim-flight P L W s.tasks w seal_task m Y.free ne };
                   added = λ e ie ne. none-new P L W n e (s.waiting e);
                 };
-            local = local2;
-            gives = λ f K. folding-same P L W n Y.node (view P s n) (view P s2 n) (coming P s f n) (coming P s2 f n) f2 (λ H t. folded2 f H) (K.distinct c.0) (λ st H t. refl) refl;
-            base = λ f K. gathered-same L.equality (fold_kept P L W n) (folded_all P L W s f n) (folded_all P L W s2 f n) (λ H t. folded2 f H) (K.distinct c.0);
-            folds = λ f q. (refl, λ H t. folded2 f H);
+            local = seal_local;
+            gives = λ f K. folding-same P L W n Y.node (view P s n) (view P seal_after n) (coming P s f n) (coming P seal_after f n) seal_folds (λ H t. seal_all_same f H) (K.distinct c.0) (λ st H t. refl) refl;
+            base = λ f K. gathered-same L.equality (fold_kept P L W n) (folded_all P L W s f n) (folded_all P L W seal_after f n) (λ H t. seal_all_same f H) (K.distinct c.0);
+            folds = λ f q. (refl, λ H t. seal_all_same f H);
           }
 
     module _ (p : ℕ) (c : CanDo P s n Stream p) where
-      abbrev e3 : ℕ
-      e3 = streams_from P n
+      abbrev stream_edge : ℕ
+      stream_edge = streams_from P n
 
-      abbrev t3 : Task R
-      t3 = task_of s n Stream p (at_or blank p (s.waiting e3)) (s.locals n w)
+      abbrev stream_task : Task R
+      stream_task = task_of s n Stream p (at_or blank p (s.waiting stream_edge)) (s.locals n w)
 
-      abbrev s3 : State R
-      s3 = claimed P s w n Stream p
+      abbrev stream_after : State R
+      stream_after = claimed P s w n Stream p
 
-      st3 : Streams (P.node n)
-      st3 = F.started.streaming n Y.node c.0
+      stream_streams : Streams (P.node n)
+      stream_streams = F.started.streaming n Y.node c.0
 
-      taken3 : (H : Batch R → ℕ) → weigh H (s.waiting e3) ≡ H t3.batch + weigh H (s3.waiting e3)
-      taken3 H =
-          let b = weigh-without H blank p (s.waiting e3) c.1 in
-          let d = ap (weigh H) (upd-here s.waiting e3 (without p (s.waiting e3))) in
+      stream_taken : (H : Batch R → ℕ) → weigh H (s.waiting stream_edge) ≡ H stream_task.batch + weigh H (stream_after.waiting stream_edge)
+      stream_taken H =
+          let b = weigh-without H blank p (s.waiting stream_edge) c.1 in
+          let d = ap (weigh H) (upd-here s.waiting stream_edge (without p (s.waiting stream_edge))) in
           omega arith
 
-      set3 : (f : ℕ → List (Batch R)) (H : Batch R → ℕ) → weigh H ((view P s n).held ++ all_streamed (coming P s f n)) ≡ weigh H ((view P s3 n).held ++ all_streamed (coming P s3 f n))
-      set3 f H =
-          let a = held-taken H t3 refl refl in
-          let b = taken3 H in
-          let x = weigh-append H (view P s n).held (s.waiting e3 ++ f e3) in
-          let x' = weigh-append H (view P s3 n).held (s3.waiting e3 ++ f e3) in
-          let y = weigh-append H (s.waiting e3) (f e3) in
-          let y' = weigh-append H (s3.waiting e3) (f e3) in
+      stream_set : (f : ℕ → List (Batch R)) (H : Batch R → ℕ) → weigh H ((view P s n).held ++ all_streamed (coming P s f n)) ≡ weigh H ((view P stream_after n).held ++ all_streamed (coming P stream_after f n))
+      stream_set f H =
+          let a = held-taken H stream_task refl refl in
+          let b = stream_taken H in
+          let x = weigh-append H (view P s n).held (s.waiting stream_edge ++ f stream_edge) in
+          let x' = weigh-append H (view P stream_after n).held (stream_after.waiting stream_edge ++ f stream_edge) in
+          let y = weigh-append H (s.waiting stream_edge) (f stream_edge) in
+          let y' = weigh-append H (stream_after.waiting stream_edge) (f stream_edge) in
           omega arith
 
-      tails3 : (f : ℕ → List (Batch R)) → Same (P.node n).kept (tails_by (P.node n) P.batch (s.built n) (rows_of ((view P s n).held ++ all_streamed (coming P s f n)))) (tails_by (P.node n) P.batch (s.built n) (rows_of ((view P s3 n).held ++ all_streamed (coming P s3 f n))))
-      tails3 f = tails-set P L W n Y.node st3 (s.built n) _ _ (SameSet-weigh _ _ (Same-rows true _ _ (λ H t. set3 f H)))
+      stream_tails : (f : ℕ → List (Batch R)) → Same (P.node n).kept (tails_by (P.node n) P.batch (s.built n) (rows_of ((view P s n).held ++ all_streamed (coming P s f n)))) (tails_by (P.node n) P.batch (s.built n) (rows_of ((view P stream_after n).held ++ all_streamed (coming P stream_after f n))))
+      stream_tails f = tails-set P L W n Y.node stream_streams (s.built n) _ _ (SameSet-weigh _ _ (Same-rows true _ _ (λ H t. stream_set f H)))
 
-      gives3 : (f : ℕ → List (Batch R)) → Same (P.node n).kept (future_by (P.node n) P.batch Streaming (view P s n) (coming P s f n)) (future_by (P.node n) P.batch Streaming (view P s3 n) (coming P s3 f n))
-      gives3 f H t =
+      stream_gives : (f : ℕ → List (Batch R)) → Same (P.node n).kept (future_by (P.node n) P.batch Streaming (view P s n) (coming P s f n)) (future_by (P.node n) P.batch Streaming (view P stream_after n) (coming P stream_after f n))
+      stream_gives f H t =
           let v : Node R = P.node n in
-          let g = given-more H t3 refl in
-          let b = taken3 (λ x. H (remains_of v (s.built n) x)) in
-          let r = tails3 f H t in
-          let m = weigh-map H (remains_of v (s.built n)) (s.waiting e3) in
-          let m' = weigh-map H (remains_of v (s.built n)) (s3.waiting e3) in
-          let x = weigh-append H (map (remains_of v (s.built n)) (s.waiting e3)) (map (whole_of v (s.built n)) (f e3)) in
-          let x' = weigh-append H (map (remains_of v (s.built n)) (s3.waiting e3)) (map (whole_of v (s.built n)) (f e3)) in
+          let g = given-more H stream_task refl in
+          let b = stream_taken (λ x. H (remains_of v (s.built n) x)) in
+          let r = stream_tails f H t in
+          let m = weigh-map H (remains_of v (s.built n)) (s.waiting stream_edge) in
+          let m' = weigh-map H (remains_of v (s.built n)) (stream_after.waiting stream_edge) in
+          let x = weigh-append H (map (remains_of v (s.built n)) (s.waiting stream_edge)) (map (whole_of v (s.built n)) (f stream_edge)) in
+          let x' = weigh-append H (map (remains_of v (s.built n)) (stream_after.waiting stream_edge)) (map (whole_of v (s.built n)) (f stream_edge)) in
           let y = weigh-append H (streamed_by v (s.built n) (coming P s f n)) (tails_by v P.batch (s.built n) (rows_of ((view P s n).held ++ all_streamed (coming P s f n)))) in
-          let y' = weigh-append H (streamed_by v (s.built n) (coming P s3 f n)) (tails_by v P.batch (s.built n) (rows_of ((view P s3 n).held ++ all_streamed (coming P s3 f n)))) in
+          let y' = weigh-append H (streamed_by v (s.built n) (coming P stream_after f n)) (tails_by v P.batch (s.built n) (rows_of ((view P stream_after n).held ++ all_streamed (coming P stream_after f n)))) in
           let z = weigh-append H (view P s n).given (streamed_by v (s.built n) (coming P s f n) ++ tails_by v P.batch (s.built n) (rows_of ((view P s n).held ++ all_streamed (coming P s f n)))) in
-          let z' = weigh-append H (view P s3 n).given (streamed_by v (s.built n) (coming P s3 f n) ++ tails_by v P.batch (s.built n) (rows_of ((view P s3 n).held ++ all_streamed (coming P s3 f n)))) in
+          let z' = weigh-append H (view P stream_after n).given (streamed_by v (s.built n) (coming P stream_after f n) ++ tails_by v P.batch (s.built n) (rows_of ((view P stream_after n).held ++ all_streamed (coming P stream_after f n)))) in
           omega arith
 
-      local3 : Local P L W s s3 n []
-      local3 =
+      stream_local : Local P L W s stream_after n []
+      stream_local =
           record {
             folding = λ q. F.started.folding n Y.node q;
             streaming = λ q. F.started.streaming n Y.node q;
             next_fold = λ q. F.next_fold n Y.node q;
             next_stream = λ q. F.next_stream n Y.node q;
             from_fold = λ q j. let z = sym c.0 ∙ q in cc;
-            here = λ v u iv b e. elim (claim-here P L W s.tasks w t3 v u b) [
-              | inl z ↦ subst (λ (k : ℕ). TaskFit P L W s3 k u) (sym z.0) (subst (λ (x : Task R). TaskFit P L W s3 w x) z.1 (Y.node, inr (c.0, (refl, left-here n refl))))
-              | inr z ↦ fits-same P L W s s3 v u refl (left-else u.node v e z.0) refl
-                  (λ g ends. empty_short (s.waiting e3) p (ap (λ k. s.waiting (streams_from P k)) (sym e) ∙ close_ended s u.node v u u.job g.1 ends (sym g.0 ∙ ap s.phase e ∙ c.0)) c.1) (F.tasks v u iv z.1)
+            here = λ v u iv b e. elim (claim-here P L W s.tasks w stream_task v u b) [
+              | inl z ↦ subst (λ (k : ℕ). TaskFit P stream_after k u) (sym z.0) (subst (λ (x : Task R). TaskFit P stream_after w x) z.1 (Y.node, inr (c.0, (refl, left-here n refl))))
+              | inr z ↦ fits-same P L W s stream_after v u refl (left-else u.node v e z.0) refl
+                  (λ g ends. empty_short (s.waiting stream_edge) p (ap (λ k. s.waiting (streams_from P k)) (sym e) ∙ close_ended s u.node v u u.job g.1 ends (sym g.0 ∙ ap s.phase e ∙ c.0)) c.1) (F.tasks v u iv z.1)
             ];
-            elsewhere = λ v u iv b ne. claim-elsewhere P L W s.tasks w t3 v u b ne;
+            elsewhere = λ v u iv b ne. claim-elsewhere P L W s.tasks w stream_task v u b ne;
             live = λ d. let z = sym c.0 ∙ d in cc;
           }
 
-      pub stream-moved : Moved P L W s s3 n []
+      pub stream-moved : Moved P L W s stream_after n []
       stream-moved =
           record {
             fresh = refl;
@@ -375,60 +376,60 @@ module _ {R : Type 0} (P : Plan R) (L : Lawful P) (W : WellFormed P) where
             after = c.0;
             around =
                 record {
-                  others = λ m im ne. record { phase = refl; locals = sym (upd-else s.locals n (upd (s.locals n) w []) m ne); built = refl; streamed = refl; next = refl; flight = claim-flight P L W s.tasks w t3 m Y.free ne };
-                  added = λ e ie ne. upd-else s.waiting e3 (without p (s.waiting e3)) e (λ q. ne (ap P.user q ∙ (streams_input P W n Y.node st3).user)) ∙ none-new P L W n e (s.waiting e);
+                  others = λ m im ne. record { phase = refl; locals = sym (upd-else s.locals n (upd (s.locals n) w []) m ne); built = refl; streamed = refl; next = refl; flight = claim-flight P L W s.tasks w stream_task m Y.free ne };
+                  added = λ e ie ne. upd-else s.waiting stream_edge (without p (s.waiting stream_edge)) e (λ q. ne (ap P.user q ∙ (streams_input P W n Y.node stream_streams).user)) ∙ none-new P L W n e (s.waiting e);
                 };
-            local = local3;
-            gives = λ f K. gives3 f;
+            local = stream_local;
+            gives = λ f K. stream_gives f;
             base = λ f K. SameRows-refl (fold_kept P L W n) (s.built n);
             folds = λ f q. cc;
           }
 
     module _ (k : ℕ) (c : CanDo P s n Close k) where
-      abbrev t4 : Task R
-      t4 = task_of s n Close k blank (gather P.workers (s.locals n))
+      abbrev close_task : Task R
+      close_task = task_of s n Close k blank (gather P.workers (s.locals n))
 
-      abbrev s4 : State R
-      s4 = claimed P s w n Close k
+      abbrev close_after : State R
+      close_after = claimed P s w n Close k
 
-      st4 : Streams (P.node n)
-      st4 = F.started.streaming n Y.node c.0
+      close_streams : Streams (P.node n)
+      close_streams = F.started.streaming n Y.node c.0
 
-      set4 : (f : ℕ → List (Batch R)) (H : Batch R → ℕ) → weigh H ((view P s n).held ++ all_streamed (coming P s f n)) ≡ weigh H ((view P s4 n).held ++ all_streamed (coming P s4 f n))
-      set4 f H =
-          let a = held-moved H t4 refl refl in
+      close_set : (f : ℕ → List (Batch R)) (H : Batch R → ℕ) → weigh H ((view P s n).held ++ all_streamed (coming P s f n)) ≡ weigh H ((view P close_after n).held ++ all_streamed (coming P close_after f n))
+      close_set f H =
+          let a = held-moved H close_task refl refl in
           let x = weigh-append H (view P s n).held (all_streamed (coming P s f n)) in
-          let x' = weigh-append H (view P s4 n).held (all_streamed (coming P s4 f n)) in
+          let x' = weigh-append H (view P close_after n).held (all_streamed (coming P close_after f n)) in
           omega arith
 
-      gives4 : (f : ℕ → List (Batch R)) → Same (P.node n).kept (future_by (P.node n) P.batch Streaming (view P s n) (coming P s f n)) (future_by (P.node n) P.batch Streaming (view P s4 n) (coming P s4 f n))
-      gives4 f H t =
+      close_gives : (f : ℕ → List (Batch R)) → Same (P.node n).kept (future_by (P.node n) P.batch Streaming (view P s n) (coming P s f n)) (future_by (P.node n) P.batch Streaming (view P close_after n) (coming P close_after f n))
+      close_gives f H t =
           let v : Node R = P.node n in
-          let g = given-more H t4 refl in
-          let r = tails-set P L W n Y.node st4 (s.built n) _ _ (SameSet-weigh (rows_of ((view P s n).held ++ all_streamed (coming P s f n))) (rows_of ((view P s4 n).held ++ all_streamed (coming P s4 f n))) (Same-rows true _ _ (λ H t. set4 f H))) H t in
+          let g = given-more H close_task refl in
+          let r = tails-set P L W n Y.node close_streams (s.built n) _ _ (SameSet-weigh (rows_of ((view P s n).held ++ all_streamed (coming P s f n))) (rows_of ((view P close_after n).held ++ all_streamed (coming P close_after f n))) (Same-rows true _ _ (λ H t. close_set f H))) H t in
           let y = weigh-append H (streamed_by v (s.built n) (coming P s f n)) (tails_by v P.batch (s.built n) (rows_of ((view P s n).held ++ all_streamed (coming P s f n)))) in
-          let y' = weigh-append H (streamed_by v (s.built n) (coming P s4 f n)) (tails_by v P.batch (s.built n) (rows_of ((view P s4 n).held ++ all_streamed (coming P s4 f n)))) in
+          let y' = weigh-append H (streamed_by v (s.built n) (coming P close_after f n)) (tails_by v P.batch (s.built n) (rows_of ((view P close_after n).held ++ all_streamed (coming P close_after f n)))) in
           let z = weigh-append H (view P s n).given (streamed_by v (s.built n) (coming P s f n) ++ tails_by v P.batch (s.built n) (rows_of ((view P s n).held ++ all_streamed (coming P s f n)))) in
-          let z' = weigh-append H (view P s4 n).given (streamed_by v (s.built n) (coming P s4 f n) ++ tails_by v P.batch (s.built n) (rows_of ((view P s4 n).held ++ all_streamed (coming P s4 f n)))) in
+          let z' = weigh-append H (view P close_after n).given (streamed_by v (s.built n) (coming P close_after f n) ++ tails_by v P.batch (s.built n) (rows_of ((view P close_after n).held ++ all_streamed (coming P close_after f n)))) in
           omega arith
 
-      local4 : Local P L W s s4 n []
-      local4 =
+      close_local : Local P L W s close_after n []
+      close_local =
           record {
             folding = λ q. F.started.folding n Y.node q;
             streaming = λ q. F.started.streaming n Y.node q;
             next_fold = λ q. F.next_fold n Y.node q;
             next_stream = λ q. F.next_stream n Y.node q;
             from_fold = λ q j. let z = sym c.0 ∙ q in cc;
-            here = λ v u iv b e. elim (claim-here P L W s.tasks w t4 v u b) [
-              | inl z ↦ subst (λ (k : ℕ). TaskFit P L W s4 k u) (sym z.0) (subst (λ (x : Task R). TaskFit P L W s4 w x) z.1 (Y.node, inr (c.0, (flying-alone P s.tasks w t4 n Y.worker refl c.1, emptied-none, c.2, c.4))))
+            here = λ v u iv b e. elim (claim-here P L W s.tasks w close_task v u b) [
+              | inl z ↦ subst (λ (k : ℕ). TaskFit P close_after k u) (sym z.0) (subst (λ (x : Task R). TaskFit P close_after w x) z.1 (Y.node, inr (c.0, (flying-alone P s.tasks w close_task n Y.worker refl c.1, emptied-none, c.2, c.4))))
               | inr z ↦ absurd (none-flying P s.tasks n c.1 v u iv z.1 e)
             ];
-            elsewhere = λ v u iv b ne. claim-elsewhere P L W s.tasks w t4 v u b ne;
+            elsewhere = λ v u iv b ne. claim-elsewhere P L W s.tasks w close_task v u b ne;
             live = λ d. let z = sym c.0 ∙ d in cc;
           }
 
-      pub close-moved : Moved P L W s s4 n []
+      pub close-moved : Moved P L W s close_after n []
       close-moved =
           record {
             fresh = refl;
@@ -438,11 +439,11 @@ module _ {R : Type 0} (P : Plan R) (L : Lawful P) (W : WellFormed P) where
             after = c.0;
             around =
                 record {
-                  others = λ m im ne. record { phase = refl; locals = sym (upd-else s.locals n (λ _. []) m ne); built = refl; streamed = refl; next = refl; flight = claim-flight P L W s.tasks w t4 m Y.free ne };
+                  others = λ m im ne. record { phase = refl; locals = sym (upd-else s.locals n (λ _. []) m ne); built = refl; streamed = refl; next = refl; flight = claim-flight P L W s.tasks w close_task m Y.free ne };
                   added = λ e ie ne. none-new P L W n e (s.waiting e);
                 };
-            local = local4;
-            gives = λ f K. gives4 f;
+            local = close_local;
+            gives = λ f K. close_gives f;
             base = λ f K. SameRows-refl (fold_kept P L W n) (s.built n);
             folds = λ f q. cc;
           }

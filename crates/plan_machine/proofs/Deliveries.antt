@@ -22,7 +22,8 @@ use Rattle.plan_machine.proofs.Value.{whole_of, remains_of, Coming, all_streamed
 use Rattle.plan_machine.proofs.Pass.{fold_kept, folding-same, tails-set, fresh-remains, true_or_false}
 use Rattle.plan_machine.proofs.Turn.{new_at, Known, folds_input, streams_input, folded_all}
 use Rattle.plan_machine.proofs.Flight.{ends, works, flying, flying-less, flying-has, flying-gone, none-flying, locals-change}
-use Rattle.plan_machine.proofs.Fit.{phase_of, TaskFits, InPhase, Fit, Local, Around}
+use Rattle.plan_machine.specs.InFlight.{phase_of, TaskFits, InPhase}
+use Rattle.plan_machine.proofs.Fit.{Fit, Local, Around}
 use Rattle.plan_machine.proofs.Moved.{Moved, none-new, given-weigh, held-weigh, fits-same, done-here, done-flight}
 use Rattle.plan_machine.proofs.Claims.{not_ends}
 
@@ -40,7 +41,7 @@ only_one x y z u k a b c d = rw (a, b, c, d) (append-nil (k ++ []) ∙ append-ni
 
 module _ {R : Type 0} (P : Plan R) (L : Lawful P) (W : WellFormed P) where
   -- a seal or a closing is alone at its node
-  alone_of : (s : State R) (m v : ℕ) (u : Task R) (j : Job) → TaskFits P L W s m v u j → ends j ≡ 1 → flying P s.tasks m ≡ u ∷ []
+  alone_of : (s : State R) (m v : ℕ) (u : Task R) (j : Job) → TaskFits P s m v u j → ends j ≡ 1 → flying P s.tasks m ≡ u ∷ []
   alone_of s m v u Emit f e = cc
   alone_of s m v u Fold f e = cc
   alone_of s m v u Seal f e = f.0
@@ -206,7 +207,7 @@ module _ {R : Type 0} (P : Plan R) (L : Lawful P) (W : WellFormed P) where
         omega arith
 
     -- where the task folds or streams, no seal and no closing is in flight
-    none_ends : works t.job ≡ 1 → (v : ℕ) (u : Task R) → u.node ≡ a → InPhase P L W s u.node v u → ends u.job ≡ 1 → ⊥
+    none_ends : works t.job ≡ 1 → (v : ℕ) (u : Task R) → u.node ≡ a → InPhase P s u.node v u → ends u.job ≡ 1 → ⊥
     none_ends o v u e g z =
         let x = alone_of s u.node v u u.job g.1 z in
         let y : flying P s.tasks a ≡ u ∷ [] = sym (ap (flying P s.tasks) e) ∙ x in
@@ -254,98 +255,98 @@ module _ {R : Type 0} (P : Plan R) (L : Lawful P) (W : WellFormed P) where
         }
 
     -- A Seal: the node's rows are those of all batches that it folded.
-    module _ (jb : t.job ≡ Seal) (p : s.phase a ≡ Folding) (x : TaskFits P L W s a w t Seal) where
-      abbrev s5 : State R
-      s5 = landed P s w t Seal
+    module _ (jb : t.job ≡ Seal) (p : s.phase a ≡ Folding) (x : TaskFits P s a w t Seal) where
+      abbrev seal_after : State R
+      seal_after = landed P s w t Seal
 
-      abbrev q5 : Phase
-      q5 = phase_after_seal_of (P.node a).streams (P.node a).tails
+      abbrev seal_phase : Phase
+      seal_phase = phase_after_seal_of (P.node a).streams (P.node a).tails
 
-      fo5 : Folds (P.node a)
-      fo5 = F.started.folding a i p
+      seal_folds : Folds (P.node a)
+      seal_folds = F.started.folding a i p
 
-      phase5 : s5.phase a ≡ q5
-      phase5 = upd-here s.phase a q5
+      seal_phase_is : seal_after.phase a ≡ seal_phase
+      seal_phase_is = upd-here s.phase a seal_phase
 
-      built5 : s5.built a ≡ gathered t.took
-      built5 = upd-here s.built a (gathered t.took)
+      seal_built : seal_after.built a ≡ gathered t.took
+      seal_built = upd-here s.built a (gathered t.took)
 
-      gone5 : flying P done a ≡ []
-      gone5 = flying-gone P s.tasks w t t a iw busy refl x.0
+      seal_gone : flying P done a ≡ []
+      seal_gone = flying-gone P s.tasks w t t a iw busy refl x.0
 
-      all5 : (f : ℕ → List (Batch R)) → Known P L W s s5 f a → folded_all P L W s f a ≡ t.took
-      all5 f K =
-          let e = folds_input P W a i fo5 in
+      seal_all : (f : ℕ → List (Batch R)) → Known P L W s seal_after f a → folded_all P L W s f a ≡ t.took
+      seal_all f K =
+          let e = folds_input P W a i seal_folds in
           let b = e.before in
-          let d : s5.phase (folds_from P a) ≡ Done = upd-else s.phase a q5 (folds_from P a) (λ q. absurd (omega arith)) ∙ x.2.0 in
+          let d : seal_after.phase (folds_from P a) ≡ Done = upd-else s.phase a seal_phase (folds_from P a) (λ q. absurd (omega arith)) ∙ x.2.0 in
           only_one _ _ _ _ t.took x.1 (ap (flat (holds_of P)) x.0 ∙ ap (λ (l : List (Batch R)). l ++ []) (ap (holds_by P t) jb)) x.2.1 (K.none (folds_from P a) e d)
 
-      base5 : (f : ℕ → List (Batch R)) → Known P L W s s5 f a → gathered (folded_all P L W s f a) ≡ s5.built a
-      base5 f K = ap (gathered {R = R}) (all5 f K) ∙ sym built5
+      seal_base : (f : ℕ → List (Batch R)) → Known P L W s seal_after f a → gathered (folded_all P L W s f a) ≡ seal_after.built a
+      seal_base f K = ap (gathered {R = R}) (seal_all f K) ∙ sym seal_built
 
-      given5 : (view P s5 a).given ≡ []
-      given5 = ap (flat (gives_of P)) gone5
+      seal_given : (view P seal_after a).given ≡ []
+      seal_given = ap (flat (gives_of P)) seal_gone
 
-      held5 : (view P s5 a).held ≡ []
-      held5 = let y = ap (flat (holds_of P)) gone5 in let z = x.1 in rw (y, z) refl
+      seal_held : (view P seal_after a).held ≡ []
+      seal_held = let y = ap (flat (holds_of P)) seal_gone in let z = x.1 in rw (y, z) refl
 
-      around5 : Around P L W s s5 a []
-      around5 =
+      seal_around : Around P L W s seal_after a []
+      seal_around =
           record {
-            others = λ m im ne. record { phase = sym (upd-else s.phase a q5 m ne); locals = refl; built = sym (upd-else s.built a (gathered t.took) m ne); streamed = refl; next = refl; flight = done-flight P L W s.tasks w t m busy ne };
+            others = λ m im ne. record { phase = sym (upd-else s.phase a seal_phase m ne); locals = refl; built = sym (upd-else s.built a (gathered t.took) m ne); streamed = refl; next = refl; flight = done-flight P L W s.tasks w t m busy ne };
             added = λ e ie ne. none-new P L W a e (s.waiting e);
           }
 
-      local5 : (q : Phase) → s5.phase a ≡ q → (q ≡ Folding → ⊥) → (q ≡ Done → ⊥) → (q ≡ Streaming → Streams (P.node a)) → Local P L W s s5 a []
-      local5 q e nf nd st =
+      seal_local : (q : Phase) → seal_after.phase a ≡ q → (q ≡ Folding → ⊥) → (q ≡ Done → ⊥) → (q ≡ Streaming → Streams (P.node a)) → Local P L W s seal_after a []
+      seal_local q e nf nd st =
           record {
-            folding = λ z. fo5;
+            folding = λ z. seal_folds;
             streaming = λ z. st (sym e ∙ z);
             next_fold = λ z. absurd (nf (sym e ∙ z));
             next_stream = λ z. F.next_fold a i p;
             from_fold = λ z j. absurd (nf (sym e ∙ z));
-            here = λ v u iv b e'. absurd (none-flying P done a gone5 v u iv b e');
+            here = λ v u iv b e'. absurd (none-flying P done a seal_gone v u iv b e');
             elsewhere = λ v u iv b ne. elsewhere v u b;
             live = λ d. let z = sym p ∙ d in cc;
           }
 
       -- what the node gives as it streams is what it was to give
-      joined5 : (f : ℕ → List (Batch R)) → Known P L W s s5 f a → (P.node a).streams ≡ true → (H : Batch R → ℕ) → weigh H (future_by (P.node a) P.batch Folding (view P s a) (coming P s f a)) ≡ weigh H (future_by (P.node a) P.batch Streaming (view P s5 a) (coming P s5 f a))
-      joined5 f K j H =
+      seal_streams : (f : ℕ → List (Batch R)) → Known P L W s seal_after f a → (P.node a).streams ≡ true → (H : Batch R → ℕ) → weigh H (future_by (P.node a) P.batch Folding (view P s a) (coming P s f a)) ≡ weigh H (future_by (P.node a) P.batch Streaming (view P seal_after a) (coming P seal_after f a))
+      seal_streams f K j H =
           let v : Node R = P.node a in
           let C : Coming R = coming P s f a in
           let b : List R = gathered (folded_all P L W s f a) in
           let y = ap (λ z. weigh H (cond z (joined_by v P.batch b C) (tails_by v P.batch b (rows_of (s.streamed a))))) j in
-          let be : b ≡ s5.built a = base5 f K in
+          let be : b ≡ seal_after.built a = seal_base f K in
           let y' = ap (λ z. weigh H (joined_by v P.batch z C)) be in
-          let m = weigh-append H (map (whole_of v (s5.built a)) (all_streamed C)) (tails_by v P.batch (s5.built a) (rows_of (all_streamed C))) in
-          let m1 = weigh-map H (whole_of v (s5.built a)) (all_streamed C) in
-          let m2 = weigh-append (λ x. H (whole_of v (s5.built a) x)) C.streamed_waiting C.streamed_later in
-          let m3 = weigh-map H (whole_of v (s5.built a)) C.streamed_waiting in
-          let m4 = weigh-map H (whole_of v (s5.built a)) C.streamed_later in
-          let fr = fresh-remains v (s5.built a) H C.streamed_waiting (F.from_fold a i p j) in
-          let n = weigh-append H (map (remains_of v (s5.built a)) C.streamed_waiting) (map (whole_of v (s5.built a)) C.streamed_later) in
-          let o = weigh-append H (streamed_by v (s5.built a) C) (tails_by v P.batch (s5.built a) (rows_of ((view P s5 a).held ++ all_streamed C))) in
-          let k = weigh-append H (view P s5 a).given (streamed_by v (s5.built a) C ++ tails_by v P.batch (s5.built a) (rows_of ((view P s5 a).held ++ all_streamed C))) in
-          let g = ap (weigh H) given5 in
-          let h = ap (λ (z : List (Batch R)). weigh H (tails_by v P.batch (s5.built a) (rows_of (z ++ all_streamed C)))) held5 in
+          let m = weigh-append H (map (whole_of v (seal_after.built a)) (all_streamed C)) (tails_by v P.batch (seal_after.built a) (rows_of (all_streamed C))) in
+          let m1 = weigh-map H (whole_of v (seal_after.built a)) (all_streamed C) in
+          let m2 = weigh-append (λ x. H (whole_of v (seal_after.built a) x)) C.streamed_waiting C.streamed_later in
+          let m3 = weigh-map H (whole_of v (seal_after.built a)) C.streamed_waiting in
+          let m4 = weigh-map H (whole_of v (seal_after.built a)) C.streamed_later in
+          let fr = fresh-remains v (seal_after.built a) H C.streamed_waiting (F.from_fold a i p j) in
+          let n = weigh-append H (map (remains_of v (seal_after.built a)) C.streamed_waiting) (map (whole_of v (seal_after.built a)) C.streamed_later) in
+          let o = weigh-append H (streamed_by v (seal_after.built a) C) (tails_by v P.batch (seal_after.built a) (rows_of ((view P seal_after a).held ++ all_streamed C))) in
+          let k = weigh-append H (view P seal_after a).given (streamed_by v (seal_after.built a) C ++ tails_by v P.batch (seal_after.built a) (rows_of ((view P seal_after a).held ++ all_streamed C))) in
+          let g = ap (weigh H) seal_given in
+          let h = ap (λ (z : List (Batch R)). weigh H (tails_by v P.batch (seal_after.built a) (rows_of (z ++ all_streamed C)))) seal_held in
           omega arith
 
-      tailing5 : (f : ℕ → List (Batch R)) → Known P L W s s5 f a → (P.node a).streams ≡ false → (P.node a).tails ≡ true → (H : Batch R → ℕ) → weigh H (future_by (P.node a) P.batch Folding (view P s a) (coming P s f a)) ≡ weigh H (future_by (P.node a) P.batch Tailing (view P s5 a) (coming P s5 f a))
-      tailing5 f K j tl H =
+      seal_tails : (f : ℕ → List (Batch R)) → Known P L W s seal_after f a → (P.node a).streams ≡ false → (P.node a).tails ≡ true → (H : Batch R → ℕ) → weigh H (future_by (P.node a) P.batch Folding (view P s a) (coming P s f a)) ≡ weigh H (future_by (P.node a) P.batch Tailing (view P seal_after a) (coming P seal_after f a))
+      seal_tails f K j tl H =
           let v : Node R = P.node a in
           let C : Coming R = coming P s f a in
           let b : List R = gathered (folded_all P L W s f a) in
           let y = ap (λ z. weigh H (cond z (joined_by v P.batch b C) (tails_by v P.batch b (rows_of (s.streamed a))))) j in
           let y' = ap (λ z. weigh H (cond z (pieces_from v.kept P.batch (v.rest b (rows_of (s.streamed a))) 0) [])) tl in
-          let e = ap (λ z. weigh H (pieces_from v.kept P.batch (v.rest z (rows_of (s.streamed a))) 0)) (base5 f K) in
-          let n = ap (λ z. weigh H (pieces_from v.kept P.batch (v.rest (s5.built a) (rows_of (s.streamed a))) z)) (F.next_fold a i p) in
-          let k = weigh-append H (view P s5 a).given (pieces_from v.kept P.batch (v.rest (s5.built a) (rows_of (s.streamed a))) (s.next a)) in
-          let g = ap (weigh H) given5 in
+          let e = ap (λ z. weigh H (pieces_from v.kept P.batch (v.rest z (rows_of (s.streamed a))) 0)) (seal_base f K) in
+          let n = ap (λ z. weigh H (pieces_from v.kept P.batch (v.rest (seal_after.built a) (rows_of (s.streamed a))) z)) (F.next_fold a i p) in
+          let k = weigh-append H (view P seal_after a).given (pieces_from v.kept P.batch (v.rest (seal_after.built a) (rows_of (s.streamed a))) (s.next a)) in
+          let g = ap (weigh H) seal_given in
           omega arith
 
-      sealed5 : (f : ℕ → List (Batch R)) → (P.node a).streams ≡ false → (P.node a).tails ≡ false → (H : Batch R → ℕ) → weigh H (future_by (P.node a) P.batch Folding (view P s a) (coming P s f a)) ≡ 0
-      sealed5 f j tl H =
+      seal_ends : (f : ℕ → List (Batch R)) → (P.node a).streams ≡ false → (P.node a).tails ≡ false → (H : Batch R → ℕ) → weigh H (future_by (P.node a) P.batch Folding (view P s a) (coming P s f a)) ≡ 0
+      seal_ends f j tl H =
           let v : Node R = P.node a in
           let C : Coming R = coming P s f a in
           let b : List R = gathered (folded_all P L W s f a) in
@@ -353,73 +354,73 @@ module _ {R : Type 0} (P : Plan R) (L : Lawful P) (W : WellFormed P) where
           let y' = ap (λ z. weigh H (cond z (pieces_from v.kept P.batch (v.rest b (rows_of (s.streamed a))) 0) [])) tl in
           omega arith
 
-      pub seal-landed : Moved P L W s s5 t.node []
+      pub seal-landed : Moved P L W s seal_after t.node []
       seal-landed =
           elim (true_or_false (P.node a).streams) [
             | inl j ↦
-                let e : s5.phase a ≡ Streaming = phase5 ∙ ap (λ z. phase_after_seal_of z (P.node a).tails) j in
+                let e : seal_after.phase a ≡ Streaming = seal_phase_is ∙ ap (λ z. phase_after_seal_of z (P.node a).tails) j in
                 record {
                   fresh = refl;
                   was = Folding;
                   is = Streaming;
                   before = p;
                   after = e;
-                  around = around5;
-                  local = local5 Streaming e (λ z. cc) (λ z. cc) (λ z. inr (fo5, j));
-                  gives = λ f K H u. joined5 f K j H;
-                  base = λ f K. SameRows-equal (fold_kept P L W a) _ _ (base5 f K);
+                  around = seal_around;
+                  local = seal_local Streaming e (λ z. cc) (λ z. cc) (λ z. inr (seal_folds, j));
+                  gives = λ f K H u. seal_streams f K j H;
+                  base = λ f K. SameRows-equal (fold_kept P L W a) _ _ (seal_base f K);
                   folds = λ f z. cc;
                 }
             | inr j ↦ elim (true_or_false (P.node a).tails) [
               | inl tl ↦
-                  let e : s5.phase a ≡ Tailing = phase5 ∙ ap (λ z. phase_after_seal_of z (P.node a).tails) j ∙ ap (λ z. phase_after_seal_of false z) tl in
+                  let e : seal_after.phase a ≡ Tailing = seal_phase_is ∙ ap (λ z. phase_after_seal_of z (P.node a).tails) j ∙ ap (λ z. phase_after_seal_of false z) tl in
                   record {
                     fresh = refl;
                     was = Folding;
                     is = Tailing;
                     before = p;
                     after = e;
-                    around = around5;
-                    local = local5 Tailing e (λ z. cc) (λ z. cc) (λ z. cc);
-                    gives = λ f K H u. tailing5 f K j tl H;
-                    base = λ f K. SameRows-equal (fold_kept P L W a) _ _ (base5 f K);
+                    around = seal_around;
+                    local = seal_local Tailing e (λ z. cc) (λ z. cc) (λ z. cc);
+                    gives = λ f K H u. seal_tails f K j tl H;
+                    base = λ f K. SameRows-equal (fold_kept P L W a) _ _ (seal_base f K);
                     folds = λ f z. cc;
                   }
               | inr tl ↦
-                  let e : s5.phase a ≡ Sealed = phase5 ∙ ap (λ z. phase_after_seal_of z (P.node a).tails) j ∙ ap (λ z. phase_after_seal_of false z) tl in
+                  let e : seal_after.phase a ≡ Sealed = seal_phase_is ∙ ap (λ z. phase_after_seal_of z (P.node a).tails) j ∙ ap (λ z. phase_after_seal_of false z) tl in
                   record {
                     fresh = refl;
                     was = Folding;
                     is = Sealed;
                     before = p;
                     after = e;
-                    around = around5;
-                    local = local5 Sealed e (λ z. cc) (λ z. cc) (λ z. cc);
-                    gives = λ f K H u. sealed5 f j tl H;
-                    base = λ f K. SameRows-equal (fold_kept P L W a) _ _ (base5 f K);
+                    around = seal_around;
+                    local = seal_local Sealed e (λ z. cc) (λ z. cc) (λ z. cc);
+                    gives = λ f K H u. seal_ends f j tl H;
+                    base = λ f K. SameRows-equal (fold_kept P L W a) _ _ (seal_base f K);
                     folds = λ f z. cc;
                   }
             ]
           ]
 
     -- A Close: the batches that the node streamed are those of all workers.
-    module _ (jb : t.job ≡ Close) (p : s.phase a ≡ Streaming) (x : TaskFits P L W s a w t Close) where
-      abbrev s6 : State R
-      s6 = landed P s w t Close
+    module _ (jb : t.job ≡ Close) (p : s.phase a ≡ Streaming) (x : TaskFits P s a w t Close) where
+      abbrev close_after : State R
+      close_after = landed P s w t Close
 
-      st6 : Streams (P.node a)
-      st6 = F.started.streaming a i p
+      close_streams : Streams (P.node a)
+      close_streams = F.started.streaming a i p
 
-      gone6 : flying P done a ≡ []
-      gone6 = flying-gone P s.tasks w t t a iw busy refl x.0
+      close_gone : flying P done a ≡ []
+      close_gone = flying-gone P s.tasks w t t a iw busy refl x.0
 
-      gives6 : (f : ℕ → List (Batch R)) → Known P L W s s6 f a → (H : Batch R → ℕ) → weigh H (future_by (P.node a) P.batch Streaming (view P s a) (coming P s f a)) ≡ weigh H (future_by (P.node a) P.batch Tailing (view P s6 a) (coming P s6 f a))
-      gives6 f K H =
+      close_gives : (f : ℕ → List (Batch R)) → Known P L W s close_after f a → (H : Batch R → ℕ) → weigh H (future_by (P.node a) P.batch Streaming (view P s a) (coming P s f a)) ≡ weigh H (future_by (P.node a) P.batch Tailing (view P close_after a) (coming P close_after f a))
+      close_gives f K H =
           let v : Node R = P.node a in
           let C : Coming R = coming P s f a in
-          let e = streams_input P W a i st6 in
+          let e = streams_input P W a i close_streams in
           let eb = e.before in
-          let d : s6.phase (streams_from P a) ≡ Done = upd-else s.phase a Tailing (streams_from P a) (λ q. absurd (omega arith)) ∙ x.2.0 in
+          let d : close_after.phase (streams_from P a) ≡ Done = upd-else s.phase a Tailing (streams_from P a) (λ q. absurd (omega arith)) ∙ x.2.0 in
           let later : f (streams_from P a) ≡ [] = K.none (streams_from P a) e d in
           let whole : (view P s a).held ++ all_streamed C ≡ t.took =
           only_one _ _ _ _ t.took x.1 (ap (flat (holds_of P)) x.0 ∙ ap (λ (l : List (Batch R)). l ++ []) (ap (holds_by P t) jb)) x.2.1 later in
@@ -432,14 +433,14 @@ module _ {R : Type 0} (P : Plan R) (L : Lawful P) (W : WellFormed P) where
           let tl = ap (λ z. weigh H (cond z (pieces_from v.kept P.batch (v.rest (s.built a) (rows_of ((view P s a).held ++ all_streamed C))) 0) [])) x.3 in
           let w1 = ap (λ (z : List (Batch R)). weigh H (pieces_from v.kept P.batch (v.rest (s.built a) (rows_of z)) 0)) whole in
           let w2 = ap (λ (z : List (Batch R)). weigh H (pieces_from v.kept P.batch (v.rest (s.built a) (rows_of z)) 0)) (upd-here s.streamed a t.took) in
-          let w3 = ap (λ z. weigh H (pieces_from v.kept P.batch (v.rest (s.built a) (rows_of (s6.streamed a))) z)) (F.next_stream a i p) in
-          let g' = ap (λ (z : List (Task R)). weigh H (flat (gives_of P) z)) gone6 in
-          let k' = weigh-append H (view P s6 a).given (pieces_from v.kept P.batch (v.rest (s.built a) (rows_of (s6.streamed a))) (s.next a)) in
+          let w3 = ap (λ z. weigh H (pieces_from v.kept P.batch (v.rest (s.built a) (rows_of (close_after.streamed a))) z)) (F.next_stream a i p) in
+          let g' = ap (λ (z : List (Task R)). weigh H (flat (gives_of P) z)) close_gone in
+          let k' = weigh-append H (view P close_after a).given (pieces_from v.kept P.batch (v.rest (s.built a) (rows_of (close_after.streamed a))) (s.next a)) in
           omega arith
 
-      pub close-landed : Moved P L W s s6 t.node []
+      pub close-landed : Moved P L W s close_after t.node []
       close-landed =
-          let e : s6.phase a ≡ Tailing = upd-here s.phase a Tailing in
+          let e : close_after.phase a ≡ Tailing = upd-here s.phase a Tailing in
           record {
             fresh = refl;
             was = Streaming;
@@ -454,53 +455,53 @@ module _ {R : Type 0} (P : Plan R) (L : Lawful P) (W : WellFormed P) where
             local =
                 record {
                   folding = λ z. let y = sym e ∙ z in cc;
-                  streaming = λ z. st6;
+                  streaming = λ z. close_streams;
                   next_fold = λ z. let y = sym e ∙ z in cc;
                   next_stream = λ z. F.next_stream a i p;
                   from_fold = λ z j. let y = sym e ∙ z in cc;
-                  here = λ v u iv b e'. absurd (none-flying P done a gone6 v u iv b e');
+                  here = λ v u iv b e'. absurd (none-flying P done a close_gone v u iv b e');
                   elsewhere = λ v u iv b ne. elsewhere v u b;
                   live = λ d. let z = sym p ∙ d in cc;
                 };
-            gives = λ f K H u. gives6 f K H;
+            gives = λ f K H u. close_gives f K H;
             base = λ f K. SameRows-refl (fold_kept P L W a) (s.built a);
             folds = λ f z. cc;
           }
 
     -- A Stream: a part of the batch's output is given, and what is left goes back.
-    module _ (jb : t.job ≡ Stream) (p : s.phase a ≡ Streaming) (x : TaskFits P L W s a w t Stream) where
-      abbrev s7 : State R
-      s7 = landed P s w t Stream
+    module _ (jb : t.job ≡ Stream) (p : s.phase a ≡ Streaming) (x : TaskFits P s a w t Stream) where
+      abbrev stream_after : State R
+      stream_after = landed P s w t Stream
 
-      abbrev e7 : ℕ
-      e7 = streams_from P a
+      abbrev stream_edge : ℕ
+      stream_edge = streams_from P a
 
-      st7 : Streams (P.node a)
-      st7 = F.started.streaming a i p
+      stream_streams : Streams (P.node a)
+      stream_streams = F.started.streaming a i p
 
-      in7 : IsInput P a e7
-      in7 = streams_input P W a i st7
+      stream_input : IsInput P a stream_edge
+      stream_input = streams_input P W a i stream_streams
 
-      waiting7 : s7.waiting e7 ≡ back P t ++ s.waiting e7
-      waiting7 =
-          let b = in7.before in
-          upd-else (upd s.waiting e7 (back P t ++ s.waiting e7)) a (s.waiting a ++ sent P t ∷ []) e7 (λ q. absurd (omega arith)) ∙ upd-here s.waiting e7 (back P t ++ s.waiting e7)
+      stream_waiting : stream_after.waiting stream_edge ≡ back P t ++ s.waiting stream_edge
+      stream_waiting =
+          let b = stream_input.before in
+          upd-else (upd s.waiting stream_edge (back P t ++ s.waiting stream_edge)) a (s.waiting a ++ sent P t ∷ []) stream_edge (λ q. absurd (omega arith)) ∙ upd-here s.waiting stream_edge (back P t ++ s.waiting stream_edge)
 
-      added7 : (e : ℕ) → P.user e ≢ a → s7.waiting e ≡ s.waiting e ++ new_at a (sent P t ∷ []) e
-      added7 e ne =
+      stream_added : (e : ℕ) → P.user e ≢ a → stream_after.waiting e ≡ s.waiting e ++ new_at a (sent P t ∷ []) e
+      stream_added e ne =
           elim (same_or e a) [
             | inl q ↦
-                ap s7.waiting q ∙ upd-here (upd s.waiting e7 (back P t ++ s.waiting e7)) a (s.waiting a ++ sent P t ∷ [])
+                ap stream_after.waiting q ∙ upd-here (upd s.waiting stream_edge (back P t ++ s.waiting stream_edge)) a (s.waiting a ++ sent P t ∷ [])
                 ∙ (let z = ap (new_at a (sent P t ∷ [])) q ∙ upd-here (λ _. []) a (sent P t ∷ []) in let y = ap s.waiting q in cc)
             | inr q ↦
-                upd-else (upd s.waiting e7 (back P t ++ s.waiting e7)) a (s.waiting a ++ sent P t ∷ []) e q
-                ∙ upd-else s.waiting e7 (back P t ++ s.waiting e7) e (λ z. ne (ap P.user z ∙ in7.user))
+                upd-else (upd s.waiting stream_edge (back P t ++ s.waiting stream_edge)) a (s.waiting a ++ sent P t ∷ []) e q
+                ∙ upd-else s.waiting stream_edge (back P t ++ s.waiting stream_edge) e (λ z. ne (ap P.user z ∙ stream_input.user))
                 ∙ (let z = upd-else (λ _. []) a (sent P t ∷ []) e q in let y = append-nil (s.waiting e) in cc)
           ]
 
       -- what was left of the batch's output is what is sent and what is left then
-      sent7 : (H : Batch R → ℕ) → IsTest (P.node a).kept H → H (remains_of (P.node a) (s.built a) t.batch) ≡ H (sent P t) + weigh H (map (remains_of (P.node a) (s.built a)) (back P t))
-      sent7 H u =
+      stream_sent : (H : Batch R → ℕ) → IsTest (P.node a).kept H → H (remains_of (P.node a) (s.built a) t.batch) ≡ H (sent P t) + weigh H (map (remains_of (P.node a) (s.built a)) (back P t))
+      stream_sent H u =
           elim (true_or_false (P.node a).cuts) [ inl c ↦ cut c | inr c ↦ uncut c ]
         where
           left : List R
@@ -541,22 +542,22 @@ module _ {R : Type 0} (P : Plan R) (L : Lawful P) (W : WellFormed P) where
               omega arith
 
       -- the rows that go back are among those that the node has taken
-      back7 : (h : R → ℕ) (b : Bool) → weigh (λ y. weigh h y.rows) (cond {A = List (Batch R)} b (record { index = t.batch.index; rows = t.batch.rows; from = t.batch.from + P.batch } ∷ []) []) ≤ weigh h t.batch.rows
-      back7 h true = omega arith
-      back7 h false = omega arith
+      stream_back : (h : R → ℕ) (b : Bool) → weigh (λ y. weigh h y.rows) (cond {A = List (Batch R)} b (record { index = t.batch.index; rows = t.batch.rows; from = t.batch.from + P.batch } ∷ []) []) ≤ weigh h t.batch.rows
+      stream_back h true = omega arith
+      stream_back h false = omega arith
 
-      set7 : (f : ℕ → List (Batch R)) → SameSet (rows_of ((view P s a).held ++ all_streamed (coming P s f a))) (rows_of ((view P s7 a).held ++ all_streamed (coming P s7 f a)))
-      set7 f h =
+      stream_set : (f : ℕ → List (Batch R)) → SameSet (rows_of ((view P s a).held ++ all_streamed (coming P s f a))) (rows_of ((view P stream_after a).held ++ all_streamed (coming P stream_after f a)))
+      stream_set f h =
           let r : Batch R → ℕ = λ y. weigh h y.rows in
           let a1 = weigh-rows h ((view P s a).held ++ all_streamed (coming P s f a)) in
-          let a2 = weigh-rows h ((view P s7 a).held ++ all_streamed (coming P s7 f a)) in
-          let a3 = weigh-append r (view P s a).held (s.waiting e7 ++ f e7) in
-          let a4 = weigh-append r (view P s7 a).held (s7.waiting e7 ++ f e7) in
-          let a5 = weigh-append r (s.waiting e7) (f e7) in
-          let a6 = weigh-append r (s7.waiting e7) (f e7) in
-          let a7 = ap (weigh r) waiting7 in
-          let a8 = weigh-append r (back P t) (s.waiting e7) in
-          let b = back7 h ((P.node a).cuts && ltb P.batch (length (left_of P t))) in
+          let a2 = weigh-rows h ((view P stream_after a).held ++ all_streamed (coming P stream_after f a)) in
+          let a3 = weigh-append r (view P s a).held (s.waiting stream_edge ++ f stream_edge) in
+          let a4 = weigh-append r (view P stream_after a).held (stream_after.waiting stream_edge ++ f stream_edge) in
+          let a5 = weigh-append r (s.waiting stream_edge) (f stream_edge) in
+          let a6 = weigh-append r (stream_after.waiting stream_edge) (f stream_edge) in
+          let a7 = ap (weigh r) stream_waiting in
+          let a8 = weigh-append r (back P t) (s.waiting stream_edge) in
+          let b = stream_back h ((P.node a).cuts && ltb P.batch (length (left_of P t))) in
           let g = held-returned r x.1 (ap (holds_by P t) jb) in
           let m = weigh-append r (gather P.workers (s.locals a)) (flat (holds_of P) (flying P s.tasks a)) in
           let k = weigh-flat r (holds_of P) (flying P s.tasks a) in
@@ -565,28 +566,28 @@ module _ {R : Type 0} (P : Plan R) (L : Lawful P) (W : WellFormed P) where
           let q = weigh-append r t.took (t.batch ∷ []) in
           ((λ z. omega arith), (λ z. omega arith))
 
-      gives7 : (f : ℕ → List (Batch R)) → Same (P.node a).kept (future_by (P.node a) P.batch Streaming (view P s a) (coming P s f a)) (sent P t ∷ future_by (P.node a) P.batch Streaming (view P s7 a) (coming P s7 f a))
-      gives7 f H u =
+      stream_gives : (f : ℕ → List (Batch R)) → Same (P.node a).kept (future_by (P.node a) P.batch Streaming (view P s a) (coming P s f a)) (sent P t ∷ future_by (P.node a) P.batch Streaming (view P stream_after a) (coming P stream_after f a))
+      stream_gives f H u =
           let v : Node R = P.node a in
           let g = given-less H in
           let g' = ap (weigh H) (ap (gives_by P t) jb) in
           let g2 = ap (λ b. H (remains_of v b t.batch)) x.0 in
-          let sn = sent7 H u in
-          let r = tails-set P L W a i st7 (s.built a) _ _ (set7 f) H u in
-          let m = weigh-map H (remains_of v (s.built a)) (s.waiting e7) in
-          let m1 = ap (λ (z : List (Batch R)). weigh H (map (remains_of v (s.built a)) z)) waiting7 in
-          let m2 = weigh-map H (remains_of v (s.built a)) (back P t ++ s.waiting e7) in
-          let m3 = weigh-append (λ y. H (remains_of v (s.built a) y)) (back P t) (s.waiting e7) in
+          let sn = stream_sent H u in
+          let r = tails-set P L W a i stream_streams (s.built a) _ _ (stream_set f) H u in
+          let m = weigh-map H (remains_of v (s.built a)) (s.waiting stream_edge) in
+          let m1 = ap (λ (z : List (Batch R)). weigh H (map (remains_of v (s.built a)) z)) stream_waiting in
+          let m2 = weigh-map H (remains_of v (s.built a)) (back P t ++ s.waiting stream_edge) in
+          let m3 = weigh-append (λ y. H (remains_of v (s.built a) y)) (back P t) (s.waiting stream_edge) in
           let m4 = weigh-map H (remains_of v (s.built a)) (back P t) in
-          let y = weigh-append H (map (remains_of v (s.built a)) (s.waiting e7)) (map (whole_of v (s.built a)) (f e7)) in
-          let y' = weigh-append H (map (remains_of v (s.built a)) (s7.waiting e7)) (map (whole_of v (s.built a)) (f e7)) in
+          let y = weigh-append H (map (remains_of v (s.built a)) (s.waiting stream_edge)) (map (whole_of v (s.built a)) (f stream_edge)) in
+          let y' = weigh-append H (map (remains_of v (s.built a)) (stream_after.waiting stream_edge)) (map (whole_of v (s.built a)) (f stream_edge)) in
           let z = weigh-append H (streamed_by v (s.built a) (coming P s f a)) (tails_by v P.batch (s.built a) (rows_of ((view P s a).held ++ all_streamed (coming P s f a)))) in
-          let z' = weigh-append H (streamed_by v (s.built a) (coming P s7 f a)) (tails_by v P.batch (s.built a) (rows_of ((view P s7 a).held ++ all_streamed (coming P s7 f a)))) in
+          let z' = weigh-append H (streamed_by v (s.built a) (coming P stream_after f a)) (tails_by v P.batch (s.built a) (rows_of ((view P stream_after a).held ++ all_streamed (coming P stream_after f a)))) in
           let k = weigh-append H (view P s a).given (streamed_by v (s.built a) (coming P s f a) ++ tails_by v P.batch (s.built a) (rows_of ((view P s a).held ++ all_streamed (coming P s f a)))) in
-          let k' = weigh-append H (view P s7 a).given (streamed_by v (s.built a) (coming P s7 f a) ++ tails_by v P.batch (s.built a) (rows_of ((view P s7 a).held ++ all_streamed (coming P s7 f a)))) in
+          let k' = weigh-append H (view P stream_after a).given (streamed_by v (s.built a) (coming P stream_after f a) ++ tails_by v P.batch (s.built a) (rows_of ((view P stream_after a).held ++ all_streamed (coming P stream_after f a)))) in
           omega arith
 
-      pub stream-landed : Moved P L W s s7 t.node (sent P t ∷ [])
+      pub stream-landed : Moved P L W s stream_after t.node (sent P t ∷ [])
       stream-landed =
           record {
             fresh = refl;
@@ -597,22 +598,22 @@ module _ {R : Type 0} (P : Plan R) (L : Lawful P) (W : WellFormed P) where
             around =
                 record {
                   others = λ m im ne. record { phase = refl; locals = sym (upd-else s.locals a (upd (s.locals a) w (t.took ++ t.batch ∷ [])) m ne); built = refl; streamed = refl; next = refl; flight = done-flight P L W s.tasks w t m busy ne };
-                  added = λ e ie ne. added7 e ne;
+                  added = λ e ie ne. stream_added e ne;
                 };
             local =
                 record {
                   folding = λ q. F.started.folding a i q;
-                  streaming = λ q. st7;
+                  streaming = λ q. stream_streams;
                   next_fold = λ q. F.next_fold a i q;
                   next_stream = λ q. F.next_stream a i q;
                   from_fold = λ q j. let z = sym p ∙ q in cc;
                   here = λ v u iv b e.
                       let d = done-here P L W s.tasks w v u b in
-                      fits-same P L W s s7 v u refl (returned-else u.node v e d.0) refl (none_ends (ap works jb) v u e) (F.tasks v u iv d.1);
+                      fits-same P L W s stream_after v u refl (returned-else u.node v e d.0) refl (none_ends (ap works jb) v u e) (F.tasks v u iv d.1);
                   elsewhere = λ v u iv b ne. elsewhere v u b;
                   live = λ d. let z = sym p ∙ d in cc;
                 };
-            gives = λ f K. gives7 f;
+            gives = λ f K. stream_gives f;
             base = λ f K. SameRows-refl (fold_kept P L W a) (s.built a);
             folds = λ f q. cc;
           }
@@ -626,7 +627,7 @@ module _ {R : Type 0} (P : Plan R) (L : Lawful P) (W : WellFormed P) where
     new_of Close = []
     new_of Tail = tail_new ∷ []
 
-    pub landed-moved : (j : Job) → t.job ≡ j → s.phase a ≡ phase_of j → TaskFits P L W s a w t j → Moved P L W s (landed P s w t j) t.node (new_of j)
+    pub landed-moved : (j : Job) → t.job ≡ j → s.phase a ≡ phase_of j → TaskFits P s a w t j → Moved P L W s (landed P s w t j) t.node (new_of j)
     landed-moved Emit e p x = emit-landed e p
     landed-moved Fold e p x = fold-landed e p x
     landed-moved Seal e p x = seal-landed e p x

@@ -1,51 +1,24 @@
 -- What is in flight fits the state: each task the phase of its node, and what it took from there.
-use Rattle.std.proofs.Common.{◌≡◌, ℕ, ◌≢◌, ◌⊎◌, inl, inr, true, List, [], ◌∷◌, ◌++◌, Some, refl, sym, ap, subst, arith, ◌∙◌}
-use Rattle.plan_machine.specs.declared.entry.Phase.{Phase}
-use Rattle.plan_machine.specs.declared.entry.Phase.TheVariants.{Emitting, Folding, Streaming, Tailing, Done}
+use Rattle.std.proofs.Common.{◌≡◌, ℕ, ◌≢◌, inl, inr, true, List, [], ◌++◌, Some, refl, sym, ap, subst, arith, ◌∙◌}
+use Rattle.plan_machine.specs.declared.entry.Phase.TheVariants.{Folding, Streaming, Done}
 use Rattle.plan_machine.specs.declared.entry.Job.{Job}
 use Rattle.plan_machine.specs.declared.entry.Job.TheVariants.{Emit, Fold, Seal, Stream, Close, Tail}
 use Rattle.plan_machine.specs.Lists.{gather, weigh}
 use Rattle.plan_machine.specs.Batch.{Batch}
 use Rattle.plan_machine.specs.Plan.{Plan, IsNode, IsEdge, IsWorker, Folds, folds_from, streams_from}
-use Rattle.plan_machine.specs.State.{State, Task, tasks_at, IsEndedEdge, opening}
+use Rattle.plan_machine.specs.State.{State, Task, IsEndedEdge, opening}
+use Rattle.plan_machine.specs.InFlight.{phase_of, TaskFits, TaskFit}
 use Rattle.plan_machine.specs.WellFormed.{Streams, Lawful, WellFormed, IsInput}
 use Rattle.plan_machine.proofs.Weigh.{weigh-append, same_or, upd-here, upd-else}
 use Rattle.plan_machine.proofs.Turn.{new_at, folds_input, streams_input, input_edge, Started, Agree}
 
--- the phase in which a job is done
-abbrev pub phase_of : Job → Phase
-phase_of Emit = Emitting
-phase_of Fold = Folding
-phase_of Seal = Folding
-phase_of Stream = Streaming
-phase_of Close = Streaming
-phase_of Tail = Tailing
-
 module _ {R : Type 0} (P : Plan R) (L : Lawful P) (W : WellFormed P) where
-  -- a task t of worker w in flight at node m, which goes on
-  abbrev pub TaskFits : State R → ℕ → ℕ → Task R → Job → Type 0
-  TaskFits s m w t Emit = Unit {0}
-  TaskFits s m w t Fold = s.locals m w ≡ []
-  TaskFits s m w t Seal = (tasks_at P s m ≡ t ∷ []) × (gather P.workers (s.locals m) ≡ []) × IsEndedEdge P s (folds_from P m)
-  TaskFits s m w t Stream = (s.built m ≡ t.built) × (s.locals m w ≡ [])
-  TaskFits s m w t Close = (tasks_at P s m ≡ t ∷ []) × (gather P.workers (s.locals m) ≡ []) × IsEndedEdge P s (streams_from P m) × ((P.node m).tails ≡ true)
-  TaskFits s m w t Tail = Unit {0}
-
-  abbrev pub InPhase : State R → ℕ → ℕ → Task R → Type 0
-  InPhase s m w t = (s.phase m ≡ phase_of t.job) × TaskFits s m w t t.job
-
-  abbrev pub Fits : State R → ℕ → Task R → Type 0
-  Fits s w t = (s.phase t.node ≡ Done) ⊎ InPhase s t.node w t
-
-  abbrev pub TaskFit : State R → ℕ → Task R → Type 0
-  TaskFit s w t = IsNode P t.node × Fits s w t
-
   pub record Fit (s : State R) : Type 0 where
     pub started : Started P L W s
     pub next_fold : (n : ℕ) → IsNode P n → s.phase n ≡ Folding → s.next n ≡ 0
     pub next_stream : (n : ℕ) → IsNode P n → s.phase n ≡ Streaming → s.next n ≡ 0
     pub from_fold : (n : ℕ) → IsNode P n → s.phase n ≡ Folding → (P.node n).streams ≡ true → weigh (λ b. b.from) (s.waiting (streams_from P n)) ≡ 0
-    pub tasks : (w : ℕ) (t : Task R) → IsWorker P w → s.tasks w ≡ Some t → TaskFit s w t
+    pub tasks : (w : ℕ) (t : Task R) → IsWorker P w → s.tasks w ≡ Some t → TaskFit P s w t
 
   -- the same of one node a after an entry there that gives the batches `new`
   pub record Local (s s' : State R) (a : ℕ) (new : List (Batch R)) : Type 0 where
@@ -54,7 +27,7 @@ module _ {R : Type 0} (P : Plan R) (L : Lawful P) (W : WellFormed P) where
     pub next_fold : s'.phase a ≡ Folding → s'.next a ≡ 0
     pub next_stream : s'.phase a ≡ Streaming → s'.next a ≡ 0
     pub from_fold : s'.phase a ≡ Folding → (P.node a).streams ≡ true → weigh (λ b. b.from) (s'.waiting (streams_from P a)) ≡ 0
-    pub here : (v : ℕ) (u : Task R) → IsWorker P v → s'.tasks v ≡ Some u → u.node ≡ a → TaskFit s' v u
+    pub here : (v : ℕ) (u : Task R) → IsWorker P v → s'.tasks v ≡ Some u → u.node ≡ a → TaskFit P s' v u
     pub elsewhere : (v : ℕ) (u : Task R) → IsWorker P v → s'.tasks v ≡ Some u → u.node ≢ a → s.tasks v ≡ Some u
     pub live : s.phase a ≡ Done → (s'.phase a ≡ Done) × (new ≡ [])
 
@@ -85,7 +58,7 @@ module _ {R : Type 0} (P : Plan R) (L : Lawful P) (W : WellFormed P) where
         ]
 
     -- a task elsewhere still fits
-    fits-kept : (w : ℕ) (t : Task R) (j : Job) → IsNode P t.node → t.node ≢ a → s.phase t.node ≡ phase_of j → TaskFits s t.node w t j → TaskFits s' t.node w t j
+    fits-kept : (w : ℕ) (t : Task R) (j : Job) → IsNode P t.node → t.node ≢ a → s.phase t.node ≡ phase_of j → TaskFits P s t.node w t j → TaskFits P s' t.node w t j
     fits-kept w t Emit i ne p f = tt
     fits-kept w t Fold i ne p f = sym (ap (λ (l : ℕ → List (Batch R)). l w) (A.others t.node i ne).locals) ∙ f
     fits-kept w t Seal i ne p f =
@@ -106,7 +79,7 @@ module _ {R : Type 0} (P : Plan R) (L : Lawful P) (W : WellFormed P) where
         )
     fits-kept w t Tail i ne p f = tt
 
-    task-kept : (w : ℕ) (t : Task R) → t.node ≢ a → TaskFit s w t → TaskFit s' w t
+    task-kept : (w : ℕ) (t : Task R) → t.node ≢ a → TaskFit P s w t → TaskFit P s' w t
     task-kept w t ne (i, inl d) = (i, inl (sym (A.others t.node i ne).phase ∙ d))
     task-kept w t ne (i, inr f) = (i, inr (sym (A.others t.node i ne).phase ∙ f.0, fits-kept w t t.job i ne f.0 f.1))
 

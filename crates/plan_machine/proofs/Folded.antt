@@ -12,7 +12,7 @@ use Rattle.plan_machine.specs.State.{State, Task, on_node, opening}
 use Rattle.plan_machine.specs.After.{claimed, landed, task_of}
 use Rattle.plan_machine.proofs.Weigh.{weigh-append, upd-here, upd-else, same_or, gather-nil}
 use Rattle.plan_machine.proofs.Flight.{flying, flying-same, flying-more, flying-less, locals-change, on_node-else}
-use Rattle.plan_machine.proofs.Fit.{phase_of}
+use Rattle.plan_machine.specs.InFlight.{phase_of}
 
 module _ {R : Type 0} (P : Plan R) where
   abbrev pub FoldedAt : State R → ℕ → Type 0

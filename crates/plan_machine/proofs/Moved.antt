@@ -16,7 +16,8 @@ use Rattle.plan_machine.proofs.Value.{base_by, future_by, view, coming, future_w
 use Rattle.plan_machine.proofs.Pass.{fold_kept}
 use Rattle.plan_machine.proofs.Turn.{new_at, Known, Turn, folded_all, AllDistinct, AllDistinct-turned, answer-turned}
 use Rattle.plan_machine.proofs.Flight.{ends, flying, flying-same, on_node-else}
-use Rattle.plan_machine.proofs.Fit.{TaskFits, InPhase, TaskFit, Fit, Local, Around, fit-turned}
+use Rattle.plan_machine.specs.InFlight.{TaskFits, InPhase, TaskFit}
+use Rattle.plan_machine.proofs.Fit.{Fit, Local, Around, fit-turned}
 
 module _ {R : Type 0} (P : Plan R) (L : Lawful P) (W : WellFormed P) where
   pub record Moved (s s' : State R) (at : ℕ) (new : List (Batch R)) : Type 0 where
@@ -81,11 +82,11 @@ module _ {R : Type 0} (P : Plan R) (L : Lawful P) (W : WellFormed P) where
       omega arith
 
   -- a task that isn't a seal or a closing fits where phase, worker's list and built rows stay
-  pub fits-same : (s s' : State R) (v : ℕ) (u : Task R) → s'.phase u.node ≡ s.phase u.node → s'.locals u.node v ≡ s.locals u.node v → s'.built u.node ≡ s.built u.node → (InPhase P L W s u.node v u → ends u.job ≡ 1 → ⊥) → TaskFit P L W s v u → TaskFit P L W s' v u
+  pub fits-same : (s s' : State R) (v : ℕ) (u : Task R) → s'.phase u.node ≡ s.phase u.node → s'.locals u.node v ≡ s.locals u.node v → s'.built u.node ≡ s.built u.node → (InPhase P s u.node v u → ends u.job ≡ 1 → ⊥) → TaskFit P s v u → TaskFit P s' v u
   fits-same s s' v u p l b e (i, inl d) = (i, inl (p ∙ d))
   fits-same s s' v u p l b e (i, inr f) = (i, inr (p ∙ f.0, by_job u.job (e f) f.1))
     where
-      by_job : (j : Job) → (ends j ≡ 1 → ⊥) → TaskFits P L W s u.node v u j → TaskFits P L W s' u.node v u j
+      by_job : (j : Job) → (ends j ≡ 1 → ⊥) → TaskFits P s u.node v u j → TaskFits P s' u.node v u j
       by_job Emit e f = tt
       by_job Fold e f = l ∙ f
       by_job Seal e f = absurd (e refl)

@@ -18,7 +18,8 @@ use Rattle.plan_machine.proofs.Weigh.{weigh-one, weigh-without, same_or, upd-her
 use Rattle.plan_machine.proofs.Pass.{true_or_false}
 use Rattle.plan_machine.proofs.Turn.{folds_input, streams_input}
 use Rattle.plan_machine.proofs.Flight.{ends, flying, flying-more, flying-less, flying-gone}
-use Rattle.plan_machine.proofs.Fit.{phase_of, TaskFits, Fit}
+use Rattle.plan_machine.specs.InFlight.{phase_of, TaskFits}
+use Rattle.plan_machine.proofs.Fit.{Fit}
 use Rattle.plan_machine.proofs.Deliveries.{new_of}
 use Rattle.plan_machine.proofs.Cost.{sum-upd, size, come_by, stage_cost, come-less, outs, endings, come_at, stage_of, edge_by, edge_of, edges_cost, task_cost, tasks_cost, Spends}
 
@@ -341,7 +342,7 @@ module _ {R : Type 0} (P : Plan R) (L : Lawful P) (W : WellFormed P) where
     gone : flying P s.tasks a ≡ t ∷ [] → flying P done a ≡ []
     gone z = flying-gone P s.tasks w t t a iw busy refl z
 
-    seal-pays : t.job ≡ Seal → s.phase a ≡ Folding → TaskFits P L W s a w t Seal → Spends P L W s (landed P s w t Seal) a []
+    seal-pays : t.job ≡ Seal → s.phase a ≡ Folding → TaskFits P s a w t Seal → Spends P L W s (landed P s w t Seal) a []
     seal-pays jb p x =
         let v : Node R = P.node a in
         let s' : State R = landed P s w t Seal in
@@ -392,7 +393,7 @@ module _ {R : Type 0} (P : Plan R) (L : Lawful P) (W : WellFormed P) where
         sealed_few false true = omega arith
         sealed_few false false = omega arith
 
-    close-pays : t.job ≡ Close → s.phase a ≡ Streaming → TaskFits P L W s a w t Close → Spends P L W s (landed P s w t Close) a []
+    close-pays : t.job ≡ Close → s.phase a ≡ Streaming → TaskFits P s a w t Close → Spends P L W s (landed P s w t Close) a []
     close-pays jb p x =
         let v : Node R = P.node a in
         let s' : State R = landed P s w t Close in
@@ -502,7 +503,7 @@ module _ {R : Type 0} (P : Plan R) (L : Lawful P) (W : WellFormed P) where
               omega arith;
         }
 
-    pub landed-spends : (j : Job) → t.job ≡ j → s.phase a ≡ phase_of j → TaskFits P L W s a w t j → Spends P L W s (landed P s w t j) a (new_of P L W s F w t iw busy j)
+    pub landed-spends : (j : Job) → t.job ≡ j → s.phase a ≡ phase_of j → TaskFits P s a w t j → Spends P L W s (landed P s w t j) a (new_of P L W s F w t iw busy j)
     landed-spends Emit e p x = emit-pays e p
     landed-spends Fold e p x = fold-pays e p
     landed-spends Seal e p x = seal-pays e p x

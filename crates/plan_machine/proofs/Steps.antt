@@ -18,7 +18,8 @@ use Rattle.plan_machine.specs.WellFormed.{Lawful, WellFormed}
 use Rattle.plan_machine.proofs.Same.{SameRows-refl, SameRows-trans}
 use Rattle.plan_machine.proofs.Value.{answer}
 use Rattle.plan_machine.proofs.Pass.{fold_kept}
-use Rattle.plan_machine.proofs.Fit.{phase_of, TaskFits, Fit, fit-opening}
+use Rattle.plan_machine.specs.InFlight.{phase_of, TaskFits}
+use Rattle.plan_machine.proofs.Fit.{Fit, fit-opening}
 use Rattle.plan_machine.proofs.Moved.{Moved, Sound, moved-sound}
 use Rattle.plan_machine.proofs.Claims.{claim-moved}
 use Rattle.plan_machine.proofs.Deliveries.{drop-moved, landed-moved, new_of}
@@ -49,7 +50,7 @@ module _ {R : Type 0} (P : Plan R) (L : Lawful P) (W : WellFormed P) where
   live Close q e = ap is_done e
   live Tail q e = ap is_done e
 
-  list : (s : State R) (w : ℕ) (t : Task R) (j : Job) → TaskFits P L W s t.node w t j → j ≡ Fold → s.locals t.node w ≡ []
+  list : (s : State R) (w : ℕ) (t : Task R) (j : Job) → TaskFits P s t.node w t j → j ≡ Fold → s.locals t.node w ≡ []
   list s w t Emit f e = cc
   list s w t Fold f e = f
   list s w t Seal f e = cc
@@ -59,7 +60,7 @@ module _ {R : Type 0} (P : Plan R) (L : Lawful P) (W : WellFormed P) where
 
   -- A delivery is dropped at a node that is Done, and else lands: what holds of both holds of it.
   pub delivered-is : (Q : State R → Type 0) (s : State R) (w : ℕ) (t : Task R) → IsWorker P w → s.tasks w ≡ Some t → Fit P L W s → s.failed ≡ false
-      → (s.phase t.node ≡ Done → Q (record s { tasks = upd s.tasks w None })) → (s.phase t.node ≡ phase_of t.job → TaskFits P L W s t.node w t t.job → Q (landed P s w t t.job)) → Q (delivered P s w (Some t))
+      → (s.phase t.node ≡ Done → Q (record s { tasks = upd s.tasks w None })) → (s.phase t.node ≡ phase_of t.job → TaskFits P s t.node w t t.job → Q (landed P s w t t.job)) → Q (delivered P s w (Some t))
   delivered-is Q s w t iw busy F sound drop land =
       let to : (b : Bool) → (s.failed || is_done (s.phase t.node)) ≡ b → Q (cond b (record s { tasks = upd s.tasks w None }) (landed P s w t t.job)) → Q (delivered P s w (Some t)) =
       λ b e m. subst (λ (c : Bool). Q (cond c (record s { tasks = upd s.tasks w None }) (landed P s w t t.job))) (sym e) m in

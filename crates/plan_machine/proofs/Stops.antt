@@ -20,7 +20,8 @@ use Rattle.plan_machine.proofs.Value.{View, all_folded, base_by, future_by, tail
 use Rattle.plan_machine.proofs.Pass.{true_or_false, fold_kept, Arrives, base-passed, future-passed, all_folded-same, tails-same}
 use Rattle.plan_machine.proofs.Turn.{folds_input, streams_input, input_edge, folded_all, AllDistinct, Agree, view-agrees, future-done}
 use Rattle.plan_machine.proofs.Flight.{flying}
-use Rattle.plan_machine.proofs.Fit.{phase_of, TaskFits, TaskFit, Fit}
+use Rattle.plan_machine.specs.InFlight.{phase_of, TaskFits, TaskFit}
+use Rattle.plan_machine.proofs.Fit.{Fit}
 use Rattle.plan_machine.proofs.Folded.{Folded}
 
 and_false : (a : Bool) → a ≡ false → (b : Bool) → (a && b) ≡ false
@@ -345,7 +346,7 @@ module _ {R : Type 0} (P : Plan R) (L : Lawful P) (W : WellFormed P) where
     ended-kept : (m e : ℕ) → IsNode P m → m ≢ n → below P m n ≡ false → IsInput P m e → IsEndedEdge P s e → IsEndedEdge P s' e
     ended-kept m e im ne b p x = let c = input_on m e im ne b p in (phase-same e c ∙ x.0, waiting-same e c ∙ x.1)
 
-    fits-kept : (w : ℕ) (t : Task R) (j : Job) → IsNode P t.node → below P t.node n ≡ false → s.phase t.node ≡ phase_of j → TaskFits P L W s t.node w t j → TaskFits P L W s' t.node w t j
+    fits-kept : (w : ℕ) (t : Task R) (j : Job) → IsNode P t.node → below P t.node n ≡ false → s.phase t.node ≡ phase_of j → TaskFits P s t.node w t j → TaskFits P s' t.node w t j
     fits-kept w t Emit im b p f = tt
     fits-kept w t Fold im b p f = f
     fits-kept w t Seal im b p f =
@@ -361,14 +362,14 @@ module _ {R : Type 0} (P : Plan R) (L : Lawful P) (W : WellFormed P) where
         ]
     fits-kept w t Tail im b p f = tt
 
-    task-kept : (w : ℕ) (t : Task R) → TaskFit P L W s w t → TaskFit P L W s' w t
+    task-kept : (w : ℕ) (t : Task R) → TaskFit P s w t → TaskFit P s' w t
     task-kept w t f =
         elim (true_or_false (below P t.node n)) [
           | inl b ↦ (f.0, inl (phase-done t.node b))
           | inr b ↦ by_fit b f
         ]
       where
-        by_fit : below P t.node n ≡ false → TaskFit P L W s w t → TaskFit P L W s' w t
+        by_fit : below P t.node n ≡ false → TaskFit P s w t → TaskFit P s' w t
         by_fit b (im, inl d) = (im, inl (phase-same t.node b ∙ d))
         by_fit b (im, inr f) = (im, inr (phase-same t.node b ∙ f.0, fits-kept w t t.job im b f.0 f.1))
 

@@ -1,13 +1,14 @@
 -- The laws that hold of every history of every plan.
-use Rattle.std.specs.Prelude.{◌≡◌, ℕ, ◌+◌, ◌≤◌, true, false, List, length}
+use Rattle.std.specs.Prelude.{◌≡◌, ℕ, ◌+◌, ◌≤◌, true, false, List, length, Some}
 use Rattle.plan_machine.specs.declared.entry.Phase.TheVariants.{Done}
 use Rattle.plan_machine.specs.declared.entry.Entry.{Entry}
 use Rattle.plan_machine.specs.Plan.{Plan, IsNode, IsEdge, IsWorker, IsJoin}
-use Rattle.plan_machine.specs.State.{NothingInFlight, opening}
+use Rattle.plan_machine.specs.State.{Task, NothingInFlight, opening}
 use Rattle.plan_machine.specs.History.{IsHistory, state_after, IsEnded, peak, result_rows}
 use Rattle.plan_machine.specs.Driver.{NoUpkeep, CanWork}
 use Rattle.plan_machine.specs.Meaning.{SameRows, whole, meaning}
 use Rattle.plan_machine.specs.WellFormed.{Lawful, WellFormed}
+use Rattle.plan_machine.specs.InFlight.{TaskFit}
 use Rattle.plan_machine.specs.Bound.{load}
 use Rattle.plan_machine.specs.Budget.{IsBudget, most}
 
@@ -23,6 +24,12 @@ abbrev pub RowsKept : Type 0 → Type 0
 RowsKept R =
     (P : Plan R) → Lawful P → WellFormed P → (es : List Entry) → IsHistory P es → IsEnded P (state_after P es)
     → SameRows (P.node P.sink).kept (result_rows P (state_after P es)) (meaning P P.sink)
+
+-- Tasks fit: what is in flight in a state that no Fail has met fits the phase of its node.
+abbrev pub TasksFit : Type 0 → Type 0
+TasksFit R =
+    (P : Plan R) → Lawful P → WellFormed P → (es : List Entry) → IsHistory P es → (state_after P es).failed ≡ false
+    → (w : ℕ) (t : Task R) → IsWorker P w → (state_after P es).tasks w ≡ Some t → TaskFit P (state_after P es) w t
 
 -- No more entries: each history, also one that fails, has at most `most` entries.
 abbrev pub NoMoreEntries : Type 0 → Type 0

@@ -12,6 +12,7 @@ pub mod Meaning
 pub mod WellFormed
 pub mod Bound
 pub mod Budget
+pub mod InFlight
 pub mod Laws
 pub mod Examples
 pub mod DriverLaws

@@ -1,7 +1,7 @@
 // What a plan means, and what holds of every history of it. Each law is a function that does nothing: its
 // contract is the law, proved for rows of any type.
 
-ghost use Rattle.plan_machine.specs.Laws.{MeaningIsWhole, NoMoreEntries, RowsKept};
+ghost use Rattle.plan_machine.specs.Laws.{MeaningIsWhole, NoMoreEntries, RowsKept, TasksFit};
 
 /// The meaning of each node, over whole tables, is made of the meanings of its inputs.
 pub fn meaning_is_whole<R>()
@@ -13,6 +13,13 @@ pub fn meaning_is_whole<R>()
 /// stands there as often in any case.
 pub fn rows_kept<R>()
     ensures { RowsKept R }
+{}
+
+/// What is in flight fits: in a state that no Fail has met, the node of each task is in the phase of the
+/// task's job, or was stopped; and a Seal or a Close is alone there, the input that it waited for having
+/// ended.
+pub fn tasks_fit<R>()
+    ensures { TasksFit R }
 {}
 
 /// A history ends: no history, also none that fails, has more entries than ten for each batch that each

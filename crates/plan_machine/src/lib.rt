@@ -15,6 +15,6 @@ pub use driver::{
     driver_is_legal, history_grows, some_entry_enabled,
 };
 pub use entry::{Entry, Job, Phase, is_upkeep};
-pub use laws::{meaning_is_whole, no_more_entries, rows_kept};
+pub use laws::{meaning_is_whole, no_more_entries, rows_kept, tasks_fit};
 pub use limits::{bounded, never_stuck, premises_can_be_met, stopping_premises_can_be_met};
 pub use shape::{OpShape, first_phase, part_count, phase_after_seal};

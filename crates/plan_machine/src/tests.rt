@@ -1,6 +1,9 @@
 // The functions that run, on values worked out by hand.
 
-use crate::{Entry, Job, OpShape, Phase, first_phase, is_upkeep, part_count, phase_after_seal};
+use crate::{
+    Entry, Job, OpShape, Phase, first_phase, is_upkeep, meaning_is_whole, no_more_entries,
+    part_count, phase_after_seal, rows_kept, tasks_fit,
+};
 
 // filter, aggregate, sink and full join
 const FILTER: OpShape = OpShape {
@@ -61,4 +64,13 @@ fn upkeep(rt: HostRuntime) {
     assert!(rt; is_upkeep(&Entry::Resume { edge: 1 }));
     assert!(rt; is_upkeep(&Entry::Finish { node: 1 }));
     assert!(rt; is_upkeep(&Entry::Stop { node: 1 }));
+}
+
+// each law at rows of one type
+#[test]
+fn laws_are_cited() {
+    meaning_is_whole::<u64>();
+    rows_kept::<u64>();
+    tasks_fit::<u64>();
+    no_more_entries::<u64>();
 }
