@@ -1,0 +1,5 @@
+mod Entries
+mod Views
+mod Turn
+mod Sharing
+mod Ends

@@ -1,0 +1,383 @@
+-- The rule at the beginning, and the steps by which the turn is taken, an entry is counted and the turn is given back.
+use Rattle.std.proofs.Common.{◌≡◌, ◌≢◌, ℕ, zero, suc, ◌+◌, ◌%◌, ◌^◌, ◌<◌, ◌≤◌, ◌⊎◌, Bool, true, false, cond, eqb, eq-eqb, List, [], ◌∷◌, ◌++◌, length, get_or, set, refl, sym, ◌∙◌, ap, subst, inl, inr, ⊎_elim, arith, length-set, length-append, Option, Some, None}
+use Rattle.std.proofs.lemmas.List.{get_or-set_same, get_or-set_other, set-get_or, append_cancel_left}
+use mathlib.Core.Option.{some, none, some-injective, some-ne-none}
+use lib.ListN.{get_elem?}
+use prog.Atomic.{either}
+use Rattle.atomic_table.specs.Table.{State, Me, Step, Act, keeps, takes, gives, stepped, Allows, Valid, carried_after, opening}
+use Rattle.atomic_table.proofs.Lists.{set_here, set_again, exchanged}
+use Rattle.turn_cell.specs.History.{entries_of, BeginsWith}
+use Rattle.turn_cell.specs.Knowledge.{is_one_of, entered, outside, with_entry, newly_made}
+use Rattle.turn_cell.specs.Rule.{live_count, Sits, IsJoined, FitsFirst, Fits, InTurns}
+use Rattle.turn_cell.specs.Steps.{first_view, HandsOut, Takes, Counts, Gives}
+use Rattle.turn_cell.specs.declared.knowledge.Known.{Known}
+use Rattle.turn_cell.specs.declared.knowledge.View.{View}
+use Rattle.turn_cell.proofs.Entries.{is_one_of-cons, entries_of-append, entries_of-other, begins-grown, begins-itself}
+use Rattle.turn_cell.proofs.Views.{at_changed, live_count-same, each_after_set, each_after_push}
+
+some_same : (m n : ℕ) → Some m ≡ Some n → m ≡ n
+some_same m n e = cc
+
+start_same : {M : Type 0} (x y : M) → Some x ≡ Some y → x ≡ y
+start_same x y e = cc
+
+first_same : {E : Type 0} {x y : E} {xs ys : List E} → x ∷ xs ≡ y ∷ ys → x ≡ y
+first_same e = cc
+
+-- a machine that is held
+in_hand : {B : Type 0} → B → List (ℕ × Option B) → B
+in_hand b [] = b
+in_hand b ((n, None) ∷ held) = b
+in_hand b ((n, Some x) ∷ held) = x
+
+held_same : {B : Type 0} (b b' : B) (held : List (ℕ × Option B)) → held ≡ (0, Some b) ∷ [] → held ≡ (0, Some b') ∷ [] → b ≡ b'
+unfolding in_hand
+held_same {B = B} b b' held e e' = sym (ap (λ (l : List (ℕ × Option B)). in_hand b l) e) ∙ ap (λ (l : List (ℕ × Option B)). in_hand b l) e'
+
+none_some : {n : ℕ} → None ≡ Some n → ⊥
+none_some e = cc
+
+module _ {B M E J : Type 0} (owner : E → Option ℕ) (history : B → List E) (job_of : B → J) (job : M → J) (start : M) where
+  abbrev S : Type 0
+  S = State (Option B) (View M E)
+
+  abbrev Rule : S → Type 0
+  Rule = InTurns owner history job_of job start
+
+  -- the table at the beginning
+  pub begins : (b : B) (n : ℕ) → history b ≡ [] → job_of b ≡ job start → Rule (opening (0 ∷ 0 ∷ []) (Some b ∷ []) (first_view start n))
+  begins b n empty same_job = record {
+      log = [];
+      seat_of = seat_of;
+      holder = 0;
+      two_words = refl;
+      length_is = refl;
+      free = λ _. (b, refl, empty, same_job);
+      taken = λ ne. absurd (ne refl);
+      longest = (0, first_view start n, (refl, refl), refl);
+      fits = each_after_push (λ id v. Fits owner [] seat_of start 0 0 1 id v) [] (first_view start n) (λ _. first) (λ j u sits. absurd (some-ne-none u (sym sits.0)))
+    }
+    where
+      seat_of : ℕ → Option ℕ
+      seat_of m = cond (eqb n m) (Some 0) None
+
+      new : (m : ℕ) → is_one_of (n ∷ []) m ≡ false → (seat_of m ≡ None) × (entries_of owner m [] ≡ [])
+      new m other = (ap (λ (b : Bool). cond b (Some 0) None) (is_one_of-cons n [] m other).0, refl)
+
+      first : Fits owner [] seat_of start 0 0 1 0 (first_view start n)
+      first = record {
+          started = refl;
+          begins = begins-itself [];
+          seen_own = refl;
+          all_own = refl;
+          seated = ap (λ (b : Bool). cond b (Some 0) None) (eq-eqb n n refl);
+          in_turn = λ inside. absurd (cc);
+          first = λ _. record { is_first_view = refl; joined = λ k d h. absurd (omega arith); new = new; counts = refl }
+        }
+
+  -- a step that changes nothing
+  pub unchanged : (s : S) (id : ℕ) (v : View M E) → get_elem? s.views id ≡ some v → Rule s → Rule (stepped s 1 (get_or s.words 1 0) id [] v keeps)
+  unchanged s id v at r =
+      let same : stepped s 1 (get_or s.words 1 0) id [] v keeps ≡ s = λ i. record { words = set-get_or s.words 1 0 i; homes = s.homes; views = set_again s.views id v at i } in
+      subst Rule (sym same) r
+
+  module _ (s : S) (r : Rule s) (id : ℕ) (v : View M E) (sits : Sits s.views id v) where
+    -- the turn is taken, with the machine that was at home
+    takes_free : length s.homes ≡ 1 → (is_free : get_or s.words 1 0 ≡ 0)
+        → Rule (stepped s 1 1 id [] (record v { knows = entered v.knows (history (r.free is_free).0) }) (takes 0 (Some (r.free is_free).0)))
+    takes_free one is_free = record {
+        log = r.log;
+        seat_of = r.seat_of;
+        holder = id;
+        two_words = length-set s.words 1 1 ∙ r.two_words;
+        length_is = get_or-set_other s.words 1 0 1 0 (λ h. omega arith) ∙ r.length_is;
+        free = λ zero. absurd (omega (arith, held));
+        taken = λ _. (set_here s.homes 0 none (omega arith), (w, (at_w, sits.1), refl));
+        longest = (id, w, (at_w, sits.1), seen_all);
+        fits = each_after_set (λ j u. Fits owner r.log r.seat_of start id turn live j u) s.views id w (λ _. mine) others
+      }
+      where
+        b : B
+        b = (r.free is_free).0
+
+        seen_all : history b ≡ r.log
+        seen_all = (r.free is_free).2
+
+        w : View M E
+        w = record v { knows = entered v.knows (history b) }
+
+        turn : ℕ
+        turn = get_or (set s.words 1 1) 1 0
+
+        held : turn ≡ 1
+        held = get_or-set_same s.words 1 1 0 (omega (arith, r.two_words))
+
+        live : ℕ
+        live = live_count (set s.views id w)
+
+        same_live : live ≡ live_count s.views
+        same_live = live_count-same s.views id v w sits sits.1
+
+        at_w : get_elem? (set s.views id w) id ≡ some w
+        at_w = at_changed s.views id v w sits.0
+
+        fit : Fits owner r.log r.seat_of start r.holder (get_or s.words 1 0) (live_count s.views) id v
+        fit = r.fits id v sits
+
+        mine : Fits owner r.log r.seat_of start id turn live id w
+        mine = record {
+            started = fit.started;
+            begins = subst (λ (l : List E). BeginsWith r.log l) (sym seen_all) (begins-itself r.log);
+            seen_own = ap (λ (l : List E). entries_of owner v.knows.number l) seen_all ∙ fit.all_own;
+            all_own = fit.all_own;
+            seated = fit.seated;
+            in_turn = λ _. (held, refl, seen_all);
+            first = λ is_first. let f = fit.first is_first in record { is_first_view = f.is_first_view; joined = f.joined; new = f.new; counts = same_live ∙ f.counts }
+          }
+
+        others : (j : ℕ) (u : View M E) → j ≢ id → Sits s.views j u → Fits owner r.log r.seat_of start id turn live j u
+        others j u other there = let f = r.fits j u there in record {
+            started = f.started;
+            begins = f.begins;
+            seen_own = f.seen_own;
+            all_own = f.all_own;
+            seated = f.seated;
+            in_turn = λ inside. absurd (omega (arith, (f.in_turn inside).0));
+            first = λ is_first. let g = f.first is_first in record { is_first_view = g.is_first_view; joined = g.joined; new = g.new; counts = same_live ∙ g.counts }
+          }
+
+    -- an entry is counted, while the seat has the turn
+    counts_entry : (e : E) → v.knows.in_turn ≡ true → (owner e ≡ None) ⊎ (owner e ≡ Some v.knows.number) → (m : ℕ) → m ≡ get_or s.words 0 0 + 1 → (held : List (ℕ × Option B))
+        → Rule (stepped s 0 m id held (record v { knows = with_entry owner v.knows e }) keeps)
+    counts_entry e inside allowed m one_more held = record {
+        log = r.log ++ e ∷ [];
+        seat_of = r.seat_of;
+        holder = r.holder;
+        two_words = length-set s.words 0 m ∙ r.two_words;
+        length_is = get_or-set_same s.words 0 m 0 (omega (arith, r.two_words)) ∙ omega (arith, one_more, r.length_is, length-append r.log (e ∷ []));
+        free = λ zero. absurd (omega (arith, turn_same, turn.0));
+        taken = λ _. ((r.taken (λ zero. omega (arith, turn.0))).0, (w, (subst (λ (i : ℕ). get_elem? (set s.views id w) i ≡ some w) turn.1 at_w, sits.1), inside));
+        longest = (id, w, (at_w, sits.1), seen_all);
+        fits = each_after_set (λ j u. Fits owner log r.seat_of start r.holder word live j u) s.views id w (λ _. mine) others
+      }
+      where
+        log : List E
+        log = r.log ++ e ∷ []
+
+        fit : Fits owner r.log r.seat_of start r.holder (get_or s.words 1 0) (live_count s.views) id v
+        fit = r.fits id v sits
+
+        turn : (get_or s.words 1 0 ≡ 1) × (id ≡ r.holder) × (v.knows.seen ≡ r.log)
+        turn = fit.in_turn inside
+
+        word : ℕ
+        word = get_or (set s.words 0 m) 1 0
+
+        turn_same : word ≡ get_or s.words 1 0
+        turn_same = get_or-set_other s.words 0 1 m 0 (λ h. omega arith)
+
+        w : View M E
+        w = record v { knows = with_entry owner v.knows e }
+
+        at_w : get_elem? (set s.views id w) id ≡ some w
+        at_w = at_changed s.views id v w sits.0
+
+        live : ℕ
+        live = live_count (set s.views id w)
+
+        same_live : live ≡ live_count s.views
+        same_live = live_count-same s.views id v w sits sits.1
+
+        seen_all : v.knows.seen ++ e ∷ [] ≡ log
+        seen_all = ap (λ (l : List E). l ++ e ∷ []) turn.2
+
+        -- the entry belongs to no number that another seat has, or none
+        elsewhere : (n : ℕ) → (r.seat_of n ≡ Some id → ⊥) → owner e ≢ Some n
+        elsewhere n not_here e_n = ⊎_elim (λ (none_owner : owner e ≡ None). cc) (λ (own : owner e ≡ Some v.knows.number). not_here (subst (λ (k : ℕ). r.seat_of k ≡ Some id) (some_same v.knows.number n (sym own ∙ e_n)) fit.seated)) allowed
+
+        grown : (n : ℕ) → (r.seat_of n ≡ Some id → ⊥) → entries_of owner n log ≡ entries_of owner n r.log
+        grown n not_here = entries_of-other owner n r.log e (elsewhere n not_here)
+
+        first_grown : (j : ℕ) (k : Known E) → FitsFirst owner r.log r.seat_of (live_count s.views) j k → FitsFirst owner log r.seat_of live j k
+        first_grown j k f = record {
+            is_first_view = f.is_first_view;
+            joined = λ i d h. let p = f.joined i d h in record { entries = grown _ (λ at. none_some (sym p.unseated ∙ at)) ∙ p.entries; was_given = p.was_given; unseated = p.unseated };
+            new = λ n other. let p = f.new n other in (p.0, grown n (λ at. none_some (sym p.0 ∙ at)) ∙ p.1);
+            counts = same_live ∙ f.counts
+          }
+
+        mine : Fits owner log r.seat_of start r.holder word live id w
+        mine = record {
+            started = fit.started;
+            begins = subst (λ (l : List E). BeginsWith log l) (sym seen_all) (begins-itself log);
+            seen_own = entries_of-append owner v.knows.number v.knows.seen (e ∷ []) ∙ ap (λ (l : List E). l ++ entries_of owner v.knows.number (e ∷ [])) fit.seen_own;
+            all_own = entries_of-append owner v.knows.number r.log (e ∷ []) ∙ ap (λ (l : List E). l ++ entries_of owner v.knows.number (e ∷ [])) fit.all_own;
+            seated = fit.seated;
+            in_turn = λ _. (turn_same ∙ turn.0, turn.1, seen_all);
+            first = λ is_first. let g = first_grown id v.knows (fit.first is_first) in record { is_first_view = g.is_first_view; joined = g.joined; new = g.new; counts = g.counts }
+          }
+
+        others : (j : ℕ) (u : View M E) → j ≢ id → Sits s.views j u → Fits owner log r.seat_of start r.holder word live j u
+        others j u other there = let f = r.fits j u there in record {
+            started = f.started;
+            begins = begins-grown r.log u.knows.seen (e ∷ []) f.begins;
+            seen_own = f.seen_own;
+            all_own = grown u.knows.number (λ at. other (some_same j id (sym f.seated ∙ at))) ∙ f.all_own;
+            seated = f.seated;
+            in_turn = λ u_inside. absurd (other ((f.in_turn u_inside).1 ∙ sym turn.1));
+            first = λ is_first. first_grown j u.knows (f.first is_first)
+          }
+
+    -- the turn is given back, with a machine of the same job that has the history which the seat has seen
+    gives_back : (b : B) → length s.homes ≡ 1 → v.knows.in_turn ≡ true → history b ≡ v.knows.seen → job_of b ≡ job start
+        → Rule (stepped s 1 0 id ((0, Some b) ∷ []) (record v { knows = outside v.knows }) gives)
+    gives_back b one inside same_history same_job = record {
+        log = r.log;
+        seat_of = r.seat_of;
+        holder = r.holder;
+        two_words = length-set s.words 1 0 ∙ r.two_words;
+        length_is = get_or-set_other s.words 1 0 0 0 (λ h. omega arith) ∙ r.length_is;
+        free = λ _. (b, set_here s.homes 0 (some (Some b)) (omega arith), same_history ∙ turn.2, same_job);
+        taken = λ held. absurd (held is_free);
+        longest = (id, w, (at_w, sits.1), turn.2);
+        fits = each_after_set (λ j u. Fits owner r.log r.seat_of start r.holder word live j u) s.views id w (λ _. mine) others
+      }
+      where
+        fit : Fits owner r.log r.seat_of start r.holder (get_or s.words 1 0) (live_count s.views) id v
+        fit = r.fits id v sits
+
+        turn : (get_or s.words 1 0 ≡ 1) × (id ≡ r.holder) × (v.knows.seen ≡ r.log)
+        turn = fit.in_turn inside
+
+        word : ℕ
+        word = get_or (set s.words 1 0) 1 0
+
+        is_free : word ≡ 0
+        is_free = get_or-set_same s.words 1 0 0 (omega (arith, r.two_words))
+
+        w : View M E
+        w = record v { knows = outside v.knows }
+
+        at_w : get_elem? (set s.views id w) id ≡ some w
+        at_w = at_changed s.views id v w sits.0
+
+        live : ℕ
+        live = live_count (set s.views id w)
+
+        same_live : live ≡ live_count s.views
+        same_live = live_count-same s.views id v w sits sits.1
+
+        mine : Fits owner r.log r.seat_of start r.holder word live id w
+        mine = record {
+            started = fit.started;
+            begins = fit.begins;
+            seen_own = fit.seen_own;
+            all_own = fit.all_own;
+            seated = fit.seated;
+            in_turn = λ held. absurd (cc);
+            first = λ is_first. let f = fit.first is_first in record { is_first_view = f.is_first_view; joined = f.joined; new = f.new; counts = same_live ∙ f.counts }
+          }
+
+        others : (j : ℕ) (u : View M E) → j ≢ id → Sits s.views j u → Fits owner r.log r.seat_of start r.holder word live j u
+        others j u other there = let f = r.fits j u there in record {
+            started = f.started;
+            begins = f.begins;
+            seen_own = f.seen_own;
+            all_own = f.all_own;
+            seated = f.seated;
+            in_turn = λ u_inside. absurd (other ((f.in_turn u_inside).1 ∙ sym turn.1));
+            first = λ is_first. let g = f.first is_first in record { is_first_view = g.is_first_view; joined = g.joined; new = g.new; counts = same_live ∙ g.counts }
+          }
+
+  abbrev Holds : Type 0
+  Holds = Me (Option B) (View M E)
+
+  -- a seat that holds nothing may try to take the turn
+  pub may_take : (step : Step (Option B)) (slots id : ℕ) (me : Holds) → slots ≡ 1 → me.0.is_live ≡ true → me.1 ≡ []
+      → Allows Rule slots id me 1 (λ n. either (eqb n 0) 1 n) (Takes owner history job_of job step me)
+  may_take step slots id me one_slot live empty =
+      subst (λ (held : List (ℕ × Option B)). Allows Rule slots id (me.0, held) 1 (λ n. either (eqb n 0) 1 n) (Takes owner history job_of job step (me.0, held))) (sym empty) with_nothing
+    where
+      v : View M E
+      v = me.0
+
+      with_nothing : Allows Rule slots id (v, []) 1 (λ n. either (eqb n 0) 1 n) (Takes owner history job_of job step (v, []))
+      with_nothing s r homes at small = exchanged found 0 1 After hit miss
+        where
+          found : ℕ
+          found = get_or s.words 1 0
+
+          After : ℕ → Type 0
+          After m = (w : View M E) × (a : Act (Option B)) × Valid s.homes [] a × Rule (stepped s 1 m id [] w a) × Takes owner history job_of job step (v, []) found (w, carried_after [] a)
+
+          fit : Fits owner r.log r.seat_of start r.holder found (live_count s.views) id v
+          fit = r.fits id v (at, live)
+
+          hit : found ≡ 0 → After 1
+          hit is_free = (
+              record v { knows = entered v.knows (history b) },
+              takes 0 (Some b),
+              (r.free is_free).1,
+              takes_free s r id v (at, live) (homes ∙ one_slot) is_free,
+              record { taken = λ _. (b, refl, refl, handed); refused = λ not_free. absurd (not_free is_free) },
+            )
+            where
+              b : B
+              b = (r.free is_free).0
+
+              same_history : history b ≡ r.log
+              same_history = (r.free is_free).2
+
+              handed : HandsOut owner history job_of job v b
+              handed = record {
+                  same_job = λ x begun. (r.free is_free).3 ∙ ap job (start_same start x (sym fit.started ∙ begun));
+                  begins = subst (λ (l : List E). BeginsWith l v.knows.seen) (sym same_history) fit.begins;
+                  seen_own = fit.seen_own;
+                  all_own = ap (λ (l : List E). entries_of owner v.knows.number l) same_history ∙ fit.all_own
+                }
+
+          miss : found ≢ 0 → After found
+          miss not_free = (v, keeps, tt, unchanged s id v at r, record { taken = λ is_free. absurd (not_free is_free); refused = λ _. refl })
+
+  -- a seat in the turn may count the entry by which the machine that it holds is ahead
+  pub may_count : (step : Step (Option B)) (slots id : ℕ) (me : Holds) (b : B) (e : E) → me.0.is_live ≡ true → me.0.knows.in_turn ≡ true → me.1 ≡ (0, Some b) ∷ [] → history b ≡ me.0.knows.seen ++ e ∷ []
+      → (owner e ≡ None) ⊎ (owner e ≡ Some me.0.knows.number) → length (history b) < 2 ^ 64
+      → Allows Rule slots id me 0 (λ n. (n + 1) % 2 ^ 64) (Counts owner history step me)
+  may_count step slots id me b e live inside held ahead allowed fits s r homes at small = (
+      record v { knows = with_entry owner v.knows e },
+      keeps,
+      tt,
+      counts_entry s r id v (at, live) e inside allowed ((get_or s.words 0 0 + 1) % 2 ^ 64) no_wrap me.1,
+      λ b' e' held' ahead'. (refl, ap (λ (x : E). record v { knows = with_entry owner v.knows x }) (same_entry b' e' held' ahead')),
+    )
+    where
+      v : View M E
+      v = me.0
+
+      seen_all : v.knows.seen ≡ r.log
+      seen_all = ((r.fits id v (at, live)).in_turn inside).2
+
+      no_wrap : (get_or s.words 0 0 + 1) % 2 ^ 64 ≡ get_or s.words 0 0 + 1
+      no_wrap = omega (arith, r.length_is, ap length seen_all, ap length ahead, length-append v.knows.seen (e ∷ []))
+
+      same_entry : (b' : B) (e' : E) → me.1 ≡ (0, Some b') ∷ [] → history b' ≡ v.knows.seen ++ e' ∷ [] → e ≡ e'
+      same_entry b' e' held' ahead' = first_same (append_cancel_left v.knows.seen (e ∷ []) (e' ∷ []) (sym ahead ∙ ap history (held_same b b' me.1 held held') ∙ ahead'))
+
+  -- a seat in the turn may give it back, with a machine of the cell's job that has the history which the seat has seen
+  pub may_give : (step : Step (Option B)) (slots id : ℕ) (me : Holds) (b : B) → slots ≡ 1 → me.0.is_live ≡ true → me.0.knows.in_turn ≡ true → me.1 ≡ (0, Some b) ∷ [] → history b ≡ me.0.knows.seen
+      → ((x : M) → me.0.start ≡ Some x → job_of b ≡ job x)
+      → Allows Rule slots id me 1 (λ _. 0) (λ _. Gives step me 0)
+  may_give step slots id me b one_slot live inside held same_history same_job =
+      subst (λ (hand : List (ℕ × Option B)). Allows Rule slots id (me.0, hand) 1 (λ _. 0) (λ _. Gives step (me.0, hand) 0)) (sym held) with_machine
+    where
+      v : View M E
+      v = me.0
+
+      with_machine : Allows Rule slots id (v, (0, Some b) ∷ []) 1 (λ _. 0) (λ _. Gives step (v, (0, Some b) ∷ []) 0)
+      with_machine s r homes at small = (
+          record v { knows = outside v.knows },
+          gives,
+          tt,
+          gives_back s r id v (at, live) b (homes ∙ one_slot) inside same_history (same_job start (r.fits id v (at, live)).started),
+          (refl, refl),
+        )

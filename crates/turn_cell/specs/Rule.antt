@@ -1,0 +1,64 @@
+-- The rule that every atomic step keeps.
+-- The table has two words and one slot. Word 0 is the length of the history. Word 1 is 0 where the turn is free and 1 where a seat has it. While the turn is free, the machine is at home in the slot.
+-- The rule speaks of lists of entries. It holds no state of a machine.
+use Rattle.std.specs.Prelude.{◌≡◌, ◌≢◌, ℕ, ◌+◌, Bool, true, false, List, [], ◌∷◌, length, count_by, slice_index, All, Option, Some, None}
+use mathlib.Core.Option.{some, none}
+use lib.ListN.{get_elem?}
+use Rattle.atomic_table.specs.Table.{State}
+use Rattle.turn_cell.specs.History.{entries_of, BeginsWith}
+use Rattle.turn_cell.specs.Knowledge.{is_one_of}
+use Rattle.turn_cell.specs.declared.knowledge.Known.{Known}
+use Rattle.turn_cell.specs.declared.knowledge.View.{View}
+
+module _ {M E : Type 0} where
+  -- how many seats are there
+  abbrev pub live_count : List (View M E) → ℕ
+  live_count views = count_by (λ v. v.is_live) views
+
+  -- the view with this index is v, and its seat is there
+  abbrev pub Sits : List (View M E) → ℕ → View M E → Type 0
+  Sits views id v = (get_elem? views id ≡ some v) × (v.is_live ≡ true)
+
+-- log is the history, and seat_of tells which view has a number, as long as its seat is there
+module _ {E : Type 0} (owner : E → Option ℕ) (log : List E) (seat_of : ℕ → Option ℕ) where
+  -- a joined number with its entries: the history has just these of it, the number was given out, and no seat has it any more
+  pub record IsJoined (given : List ℕ) (p : ℕ × List E) : Type 0 where
+    pub entries : entries_of owner p.0 log ≡ p.1
+    pub was_given : is_one_of given p.0 ≡ true
+    pub unseated : seat_of p.0 ≡ None
+
+  -- what the first seat knows: the joined numbers, that every other number is new and has no entry, and how many seats are there beside itself
+  pub record FitsFirst (live id : ℕ) (k : Known E) : Type 0 where
+    pub is_first_view : id ≡ 0
+    pub joined : All (IsJoined k.given) k.joined
+    pub new : (n : ℕ) → is_one_of k.given n ≡ false → (seat_of n ≡ None) × (entries_of owner n log ≡ [])
+    pub counts : live ≡ k.unjoined + 1
+
+  -- what a seat that is there knows: the history begins with what it has seen, and has just those entries of its number that it left, all of which it has seen. No other seat has its number. Where it is in the turn it has word 1, it is the holder, and it has seen the whole history.
+  pub record Fits {M : Type 0} (start : M) (holder turn live id : ℕ) (v : View M E) : Type 0 where
+    pub started : v.start ≡ Some start
+    pub begins : BeginsWith log v.knows.seen
+    pub seen_own : entries_of owner v.knows.number v.knows.seen ≡ v.knows.own_entries
+    pub all_own : entries_of owner v.knows.number log ≡ v.knows.own_entries
+    pub seated : seat_of v.knows.number ≡ Some id
+    pub in_turn : v.knows.in_turn ≡ true → (turn ≡ 1) × (id ≡ holder) × (v.knows.seen ≡ log)
+    pub first : v.knows.is_first ≡ true → FitsFirst live id v.knows
+
+module _ {B M E J : Type 0} (owner : E → Option ℕ) (history : B → List E) (job_of : B → J) (job : M → J) where
+  -- the rule, over the machine that the cell began with
+  pub record InTurns (start : M) (s : State (Option B) (View M E)) : Type 0 where
+    -- the history, which seat has each number, and which seat has the turn
+    pub log : List E
+    pub seat_of : ℕ → Option ℕ
+    pub holder : ℕ
+    -- word 0 is the length of the history
+    pub two_words : length s.words ≡ 2
+    pub length_is : slice_index s.words 0 ≡ length log
+    -- where word 1 is 0 a machine is at home, with that history and the job of the first machine
+    pub free : slice_index s.words 1 ≡ 0 → (b : B) × (get_elem? s.homes 0 ≡ some (some (Some b))) × (history b ≡ log) × (job_of b ≡ job start)
+    -- else the slot is out, and the holder is in the turn
+    pub taken : slice_index s.words 1 ≢ 0 → (get_elem? s.homes 0 ≡ some none) × ((v : View M E) × Sits s.views holder v × (v.knows.in_turn ≡ true))
+    -- some seat has seen the whole history
+    pub longest : (id : ℕ) × (v : View M E) × Sits s.views id v × (v.knows.seen ≡ log)
+    -- what each seat knows fits it
+    pub fits : (id : ℕ) (v : View M E) → Sits s.views id v → Fits owner log seat_of start holder (slice_index s.words 1) (live_count s.views) id v
