@@ -3,3 +3,5 @@ mod Views
 mod Turn
 mod Sharing
 mod Ends
+mod Owning
+mod Models

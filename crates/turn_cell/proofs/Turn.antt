@@ -4,7 +4,7 @@ use Rattle.std.proofs.lemmas.List.{get_or-set_same, get_or-set_other, set-get_or
 use mathlib.Core.Option.{some, none, some-injective, some-ne-none}
 use lib.ListN.{get_elem?}
 use prog.Atomic.{either}
-use Rattle.atomic_table.specs.Table.{State, Me, Step, Act, keeps, takes, gives, stepped, Allows, Valid, carried_after, opening}
+use Rattle.atomic_table.specs.Table.{State, Me, Step, Act, rest, keeps, takes, gives, stepped, Allows, Valid, carried_after, opening}
 use Rattle.atomic_table.proofs.Lists.{set_here, set_again, exchanged}
 use Rattle.turn_cell.specs.History.{entries_of, BeginsWith}
 use Rattle.turn_cell.specs.Knowledge.{is_one_of, entered, outside, with_entry, newly_made}
@@ -33,6 +33,16 @@ in_hand b ((n, Some x) ∷ held) = x
 held_same : {B : Type 0} (b b' : B) (held : List (ℕ × Option B)) → held ≡ (0, Some b) ∷ [] → held ≡ (0, Some b') ∷ [] → b ≡ b'
 unfolding in_hand
 held_same {B = B} b b' held e e' = sym (ap (λ (l : List (ℕ × Option B)). in_hand b l) e) ∙ ap (λ (l : List (ℕ × Option B)). in_hand b l) e'
+
+-- the machine that a seat takes out of the slot is the one that the step handed out
+pub taken_out : {B : Type 0} (b r : B) (found : Option B) (held others : List (ℕ × Option B)) → held ≡ (0, Some b) ∷ [] → held ≡ (0, found) ∷ others → found ≡ Some r → b ≡ r
+unfolding in_hand
+taken_out {B = B} b r found held others e e' is =
+    sym (ap (λ (l : List (ℕ × Option B)). in_hand b l) e) ∙ ap (λ (l : List (ℕ × Option B)). in_hand b l) e' ∙ ap (λ (o : Option B). in_hand b ((0, o) ∷ others)) is
+
+-- one slot that is held is the first one
+pub held_first : {S : Type 0} (x : ℕ × S) (held : List (ℕ × S)) → held ≡ x ∷ [] → held ≡ x ∷ rest held
+held_first {S = S} x held e = e ∙ ap (λ (l : List (ℕ × S)). x ∷ rest l) (sym e)
 
 none_some : {n : ℕ} → None ≡ Some n → ⊥
 none_some e = cc
