@@ -52,8 +52,8 @@ module _ {E : Type 0} (owner : E → Option ℕ) where
   between n log xs ys own (more_y, log_is) (more_x, ys_is) in_xs in_log =
       let of_ys : entries_of owner n ys ≡ own ++ entries_of owner n more_x = ap (λ (l : List E). entries_of owner n l) ys_is ∙ entries_of-append n xs more_x ∙ ap (λ (l : List E). l ++ entries_of owner n more_x) in_xs in
       let of_log : own ++ (entries_of owner n more_x ++ entries_of owner n more_y) ≡ own ++ [] =
-          sym (append_assoc own (entries_of owner n more_x) (entries_of owner n more_y)) ∙ sym (ap (λ (l : List E). l ++ entries_of owner n more_y) of_ys)
-          ∙ sym (entries_of-append n ys more_y) ∙ sym (ap (λ (l : List E). entries_of owner n l) log_is) ∙ in_log ∙ sym (append-nil own) in
+      sym (append_assoc own (entries_of owner n more_x) (entries_of owner n more_y)) ∙ sym (ap (λ (l : List E). l ++ entries_of owner n more_y) of_ys)
+      ∙ sym (entries_of-append n ys more_y) ∙ sym (ap (λ (l : List E). entries_of owner n l) log_is) ∙ in_log ∙ sym (append-nil own) in
       of_ys ∙ ap (λ (l : List E). own ++ l) (nil_of_append (entries_of owner n more_x) (entries_of owner n more_y) (append_cancel_left own (entries_of owner n more_x ++ entries_of owner n more_y) [] of_log)) ∙ append-nil own
 
   -- the longer of two beginnings of a history has the entries that the first one and the history have

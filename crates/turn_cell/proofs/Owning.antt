@@ -28,7 +28,7 @@ module _ {S E P : Type 0} (owner : E → Option ℕ) (own : S → ℕ → P) (af
   own_after_more : (n : ℕ) (s : S) (log seen left : List E) → BeginsWith log seen → entries_of owner n seen ≡ left → entries_of owner n log ≡ left → own (replay after s log) n ≡ own (replay after s seen) n
   own_after_more n s log seen left (more, log_is) in_seen in_log =
       let both : left ++ entries_of owner n more ≡ left ++ [] =
-          sym (ap (λ (l : List E). l ++ entries_of owner n more) in_seen) ∙ sym (entries_of-append owner n seen more) ∙ sym (ap (λ (l : List E). entries_of owner n l) log_is) ∙ in_log ∙ sym (append-nil left) in
+      sym (ap (λ (l : List E). l ++ entries_of owner n more) in_seen) ∙ sym (entries_of-append owner n seen more) ∙ sym (ap (λ (l : List E). entries_of owner n l) log_is) ∙ in_log ∙ sym (append-nil left) in
       ap (λ (l : List E). own (replay after s l) n) log_is ∙ ap (λ (t : S). own t n) (fold-append after s seen more)
       ∙ own_after_others n (replay after s seen) more (append_cancel_left left (entries_of owner n more) [] both)
 

@@ -42,16 +42,16 @@ module _ {B M E J : Type 0} (owner : E → Option ℕ) (history : B → List E) 
   pub may_split : (n id : ℕ) (v : View M E) → v.is_live ≡ true → v.knows.is_first ≡ true → v.knows.in_turn ≡ false → is_one_of v.knows.given n ≡ false
       → Splits Rule id v (splitting_view n v) (split_view n v)
   may_split n id v live is_first is_outside fresh s r at = record {
-      log = r.log;
-      seat_of = seat_of;
-      holder = r.holder;
-      two_words = r.two_words;
-      length_is = r.length_is;
-      free = r.free;
-      taken = λ held. let t = r.taken held in (t.0, (t.1.0, kept_view r.holder t.1.0 (not_holder held) t.1.1, t.1.2));
-      longest = dite (ℕ_discrete r.longest.0 id) longest_here longest_there;
-      fits = each_after_push P changed new (λ _. of_new) (each_after_set P s.views id left (λ _. of_first) of_others)
-    }
+    log = r.log;
+    seat_of = seat_of;
+    holder = r.holder;
+    two_words = r.two_words;
+    length_is = r.length_is;
+    free = r.free;
+    taken = λ held. let t = r.taken held in (t.0, (t.1.0, kept_view r.holder t.1.0 (not_holder held) t.1.1, t.1.2));
+    longest = dite (ℕ_discrete r.longest.0 id) longest_here longest_there;
+    fits = each_after_push P changed new (λ _. of_new) (each_after_set P s.views id left (λ _. of_first) of_others);
+  }
     where
       left : View M E
       left = splitting_view n v
@@ -117,63 +117,63 @@ module _ {B M E J : Type 0} (owner : E → Option ℕ) (history : B → List E) 
 
       of_new : P place new
       of_new = record {
-          started = fit.started;
-          begins = fit.begins;
-          seen_own = entries_of-begins owner n r.log v.knows.seen fit.begins is_new.1;
-          all_own = is_new.1;
-          seated = ap (λ (b : Bool). cond b (Some place) (r.seat_of n)) (eq-eqb n n refl);
-          in_turn = λ inside. absurd (cc);
-          first = λ claims. absurd (cc)
-        }
+        started = fit.started;
+        begins = fit.begins;
+        seen_own = entries_of-begins owner n r.log v.knows.seen fit.begins is_new.1;
+        all_own = is_new.1;
+        seated = ap (λ (b : Bool). cond b (Some place) (r.seat_of n)) (eq-eqb n n refl);
+        in_turn = λ inside. absurd (cc);
+        first = λ claims. absurd (cc);
+      }
 
       joined_apart : (p : ℕ × List E) → IsJoined owner r.log r.seat_of v.knows.given p → eqb n p.0 ≡ false
       joined_apart p joined = ne_eqb n p.0 (λ same. let given : is_one_of v.knows.given n ≡ true = ap (λ (m : ℕ). is_one_of v.knows.given m) same ∙ joined.was_given in absurd (cc))
 
       of_first : P id left
       of_first = record {
-          started = fit.started;
-          begins = fit.begins;
-          seen_own = fit.seen_own;
-          all_own = fit.all_own;
-          seated = seated_still v.knows.number id fit.seated;
-          in_turn = λ inside. absurd (cc);
-          first = λ _. record {
-              is_first_view = first.is_first_view;
-              joined = λ k d h. let p = first.joined k d h in let q = get_or v.knows.joined k d in record {
-                  entries = p.entries;
-                  was_given = one_more (eqb n q.0) (is_one_of v.knows.given q.0) p.was_given;
-                  unseated = unseated_still q.0 (joined_apart q p) p.unseated
-                };
-              new = λ m other. let t = is_one_of-cons n v.knows.given m other in let q = first.new m t.1 in (unseated_still m t.0 q.0, q.1);
-              counts = omega (arith, one_live_more, first.counts)
-            }
-        }
+        started = fit.started;
+        begins = fit.begins;
+        seen_own = fit.seen_own;
+        all_own = fit.all_own;
+        seated = seated_still v.knows.number id fit.seated;
+        in_turn = λ inside. absurd (cc);
+        first = λ _. record {
+          is_first_view = first.is_first_view;
+          joined = λ k d h. let p = first.joined k d h in let q = get_or v.knows.joined k d in record {
+            entries = p.entries;
+            was_given = one_more (eqb n q.0) (is_one_of v.knows.given q.0) p.was_given;
+            unseated = unseated_still q.0 (joined_apart q p) p.unseated;
+          };
+          new = λ m other. let t = is_one_of-cons n v.knows.given m other in let q = first.new m t.1 in (unseated_still m t.0 q.0, q.1);
+          counts = omega (arith, one_live_more, first.counts);
+        };
+      }
 
       of_others : (j : ℕ) (u : View M E) → j ≢ id → Sits s.views j u → P j u
       of_others j u other there = let f = r.fits j u there in record {
-          started = f.started;
-          begins = f.begins;
-          seen_own = f.seen_own;
-          all_own = f.all_own;
-          seated = seated_still u.knows.number j f.seated;
-          in_turn = f.in_turn;
-          first = λ claims. absurd (other ((f.first claims).is_first_view ∙ sym first.is_first_view))
-        }
+        started = f.started;
+        begins = f.begins;
+        seen_own = f.seen_own;
+        all_own = f.all_own;
+        seated = seated_still u.knows.number j f.seated;
+        in_turn = f.in_turn;
+        first = λ claims. absurd (other ((f.first claims).is_first_view ∙ sym first.is_first_view));
+      }
 
   -- another seat may be joined with the first one, both outside the turn
   pub may_join : (id : ℕ) (v : View M E) (gone : ℕ) (w : View M E) → v.is_live ≡ true → w.is_live ≡ true → v.knows.is_first ≡ true → v.knows.in_turn ≡ false → w.knows.in_turn ≡ false
       → Joins Rule id v gone w (joining_view v w) spent_view
   may_join id v gone w live w_live is_first is_outside w_outside s r at two at_changed_list = record {
-      log = r.log;
-      seat_of = seat_of;
-      holder = r.holder;
-      two_words = r.two_words;
-      length_is = r.length_is;
-      free = r.free;
-      taken = λ held. let t = r.taken held in (t.0, (t.1.0, kept_view r.holder t.1.0 (not_holder id v sits is_outside held) (not_holder gone w w_sits w_outside held) t.1.1, t.1.2));
-      longest = dite (ℕ_discrete r.longest.0 id) longest_here (λ other. dite (ℕ_discrete r.longest.0 gone) longest_gone (longest_there other));
-      fits = each_after_set P changed gone spent_view (λ there. absurd (cc)) (λ j u still sits_j. each_after_set Q s.views id both (λ _ _. of_first) of_others j u sits_j still)
-    }
+    log = r.log;
+    seat_of = seat_of;
+    holder = r.holder;
+    two_words = r.two_words;
+    length_is = r.length_is;
+    free = r.free;
+    taken = λ held. let t = r.taken held in (t.0, (t.1.0, kept_view r.holder t.1.0 (not_holder id v sits is_outside held) (not_holder gone w w_sits w_outside held) t.1.1, t.1.2));
+    longest = dite (ℕ_discrete r.longest.0 id) longest_here (λ other. dite (ℕ_discrete r.longest.0 gone) longest_gone (longest_there other));
+    fits = each_after_set P changed gone spent_view (λ there. absurd (cc)) (λ j u still sits_j. each_after_set Q s.views id both (λ _ _. of_first) of_others j u sits_j still);
+  }
     where
       both : View M E
       both = joining_view v w
@@ -251,33 +251,33 @@ module _ {B M E J : Type 0} (owner : E → Option ℕ) (history : B → List E) 
 
       of_first : P id both
       of_first = record {
-          started = fit.started;
-          begins = begins-longer r.log v.knows.seen w.knows.seen fit.begins w_fit.begins;
-          seen_own = entries_of-longer owner v.knows.number r.log v.knows.seen w.knows.seen v.knows.own_entries fit.begins w_fit.begins fit.seen_own fit.all_own;
-          all_own = fit.all_own;
-          seated = seated_still v.knows.number id (λ e. two (sym e)) fit.seated;
-          in_turn = λ inside. absurd (cc);
-          first = λ _. record {
-              is_first_view = first.is_first_view;
-              joined = All-cons (IsJoined owner r.log seat_of v.knows.given) (w.knows.number, w.knows.own_entries) v.knows.joined
-                  (record {
-                    entries = w_fit.all_own;
-                    was_given = w_given (is_one_of v.knows.given w.knows.number) refl;
-                    unseated = ap (λ (b : Bool). cond b None (r.seat_of w.knows.number)) (eq-eqb w.knows.number w.knows.number refl)
-                  })
-                  (λ k d h. let p = first.joined k d h in let q = get_or v.knows.joined k d in record { entries = p.entries; was_given = p.was_given; unseated = still_none (eqb w.knows.number q.0) (r.seat_of q.0) p.unseated });
-              new = λ m other. let q = first.new m other in (still_none (eqb w.knows.number m) (r.seat_of m) q.0, q.1);
-              counts = omega (arith, one_live_less, first.counts, some_unjoined)
-            }
-        }
+        started = fit.started;
+        begins = begins-longer r.log v.knows.seen w.knows.seen fit.begins w_fit.begins;
+        seen_own = entries_of-longer owner v.knows.number r.log v.knows.seen w.knows.seen v.knows.own_entries fit.begins w_fit.begins fit.seen_own fit.all_own;
+        all_own = fit.all_own;
+        seated = seated_still v.knows.number id (λ e. two (sym e)) fit.seated;
+        in_turn = λ inside. absurd (cc);
+        first = λ _. record {
+          is_first_view = first.is_first_view;
+          joined = All-cons (IsJoined owner r.log seat_of v.knows.given) (w.knows.number, w.knows.own_entries) v.knows.joined
+              (record {
+                entries = w_fit.all_own;
+                was_given = w_given (is_one_of v.knows.given w.knows.number) refl;
+                unseated = ap (λ (b : Bool). cond b None (r.seat_of w.knows.number)) (eq-eqb w.knows.number w.knows.number refl);
+              })
+              (λ k d h. let p = first.joined k d h in let q = get_or v.knows.joined k d in record { entries = p.entries; was_given = p.was_given; unseated = still_none (eqb w.knows.number q.0) (r.seat_of q.0) p.unseated });
+          new = λ m other. let q = first.new m other in (still_none (eqb w.knows.number m) (r.seat_of m) q.0, q.1);
+          counts = omega (arith, one_live_less, first.counts, some_unjoined);
+        };
+      }
 
       of_others : (j : ℕ) (u : View M E) → j ≢ id → Sits s.views j u → Q j u
       of_others j u other there still = let f = r.fits j u there in record {
-          started = f.started;
-          begins = f.begins;
-          seen_own = f.seen_own;
-          all_own = f.all_own;
-          seated = seated_still u.knows.number j still f.seated;
-          in_turn = f.in_turn;
-          first = λ claims. absurd (other ((f.first claims).is_first_view ∙ sym first.is_first_view))
-        }
+        started = f.started;
+        begins = f.begins;
+        seen_own = f.seen_own;
+        all_own = f.all_own;
+        seated = seated_still u.knows.number j still f.seated;
+        in_turn = f.in_turn;
+        first = λ claims. absurd (other ((f.first claims).is_first_view ∙ sym first.is_first_view));
+      }

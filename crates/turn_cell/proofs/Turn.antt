@@ -1,10 +1,10 @@
 -- The rule at the beginning, and the steps by which the turn is taken, an entry is counted and the turn is given back.
-use Rattle.std.proofs.Common.{◌≡◌, ◌≢◌, ℕ, zero, suc, ◌+◌, ◌%◌, ◌^◌, ◌<◌, ◌≤◌, ◌⊎◌, Bool, true, false, cond, eqb, eq-eqb, List, [], ◌∷◌, ◌++◌, length, get_or, set, refl, sym, ◌∙◌, ap, subst, inl, inr, ⊎_elim, arith, length-set, length-append, Option, Some, None}
+use Rattle.std.proofs.Common.{◌≡◌, ◌≢◌, ℕ, zero, suc, ◌+◌, ◌%◌, ◌^◌, ◌<◌, ◌≤◌, ◌⊎◌, Bool, true, false, cond, eqb, eq-eqb, List, [], ◌∷◌, ◌++◌, length, get_or, set, refl, sym, ◌∙◌, ap, subst, inl, inr, ⊎_elim, arith, length-set, length-append, option_map, Option, Some, None}
 use Rattle.std.proofs.lemmas.List.{get_or-set_same, get_or-set_other, set-get_or, append_cancel_left}
 use mathlib.Core.Option.{some, none, some-injective, some-ne-none}
 use lib.ListN.{get_elem?}
 use prog.Atomic.{either}
-use Rattle.atomic_table.specs.Table.{State, Me, Step, Act, rest, keeps, takes, gives, stepped, Allows, Valid, carried_after, opening}
+use Rattle.atomic_table.specs.Table.{State, Me, Step, step, Act, rest, keeps, takes, gives, stepped, Allows, Valid, carried_after, opening}
 use Rattle.atomic_table.proofs.Lists.{set_here, set_again, exchanged}
 use Rattle.turn_cell.specs.History.{entries_of, BeginsWith}
 use Rattle.turn_cell.specs.Knowledge.{is_one_of, entered, outside, with_entry, newly_made}
@@ -40,6 +40,13 @@ unfolding in_hand
 taken_out {B = B} b r found held others e e' is =
     sym (ap (λ (l : List (ℕ × Option B)). in_hand b l) e) ∙ ap (λ (l : List (ℕ × Option B)). in_hand b l) e' ∙ ap (λ (o : Option B). in_hand b ((0, o) ∷ others)) is
 
+-- a job that is that of the first machine
+pub job_of_start : {M J : Type 0} (job : M → J) (o : Option M) (j : J) → option_map job o ≡ Some j → (x : M) → o ≡ Some x → j ≡ job x
+job_of_start {J = J} job o j same x begun = some_job (sym same ∙ ap (option_map job) begun)
+  where
+    some_job : {x y : J} → Some x ≡ Some y → x ≡ y
+    some_job e = cc
+
 -- one slot that is held is the first one
 pub held_first : {S : Type 0} (x : ℕ × S) (held : List (ℕ × S)) → held ≡ x ∷ [] → held ≡ x ∷ rest held
 held_first {S = S} x held e = e ∙ ap (λ (l : List (ℕ × S)). x ∷ rest l) (sym e)
@@ -55,18 +62,18 @@ module _ {B M E J : Type 0} (owner : E → Option ℕ) (history : B → List E) 
   Rule = InTurns owner history job_of job start
 
   -- the table at the beginning
-  pub begins : (b : B) (n : ℕ) → history b ≡ [] → job_of b ≡ job start → Rule (opening (0 ∷ 0 ∷ []) (Some b ∷ []) (first_view start n))
+  begins : (b : B) (n : ℕ) → history b ≡ [] → job_of b ≡ job start → Rule (opening (0 ∷ 0 ∷ []) (Some b ∷ []) (first_view start n))
   begins b n empty same_job = record {
-      log = [];
-      seat_of = seat_of;
-      holder = 0;
-      two_words = refl;
-      length_is = refl;
-      free = λ _. (b, refl, empty, same_job);
-      taken = λ ne. absurd (ne refl);
-      longest = (0, first_view start n, (refl, refl), refl);
-      fits = each_after_push (λ id v. Fits owner [] seat_of start 0 0 1 id v) [] (first_view start n) (λ _. first) (λ j u sits. absurd (some-ne-none u (sym sits.0)))
-    }
+    log = [];
+    seat_of = seat_of;
+    holder = 0;
+    two_words = refl;
+    length_is = refl;
+    free = λ _. (b, refl, empty, same_job);
+    taken = λ ne. absurd (ne refl);
+    longest = (0, first_view start n, (refl, refl), refl);
+    fits = each_after_push (λ id v. Fits owner [] seat_of start 0 0 1 id v) [] (first_view start n) (λ _. first) (λ j u sits. absurd (some-ne-none u (sym sits.0)));
+  }
     where
       seat_of : ℕ → Option ℕ
       seat_of m = cond (eqb n m) (Some 0) None
@@ -76,17 +83,20 @@ module _ {B M E J : Type 0} (owner : E → Option ℕ) (history : B → List E) 
 
       first : Fits owner [] seat_of start 0 0 1 0 (first_view start n)
       first = record {
-          started = refl;
-          begins = begins-itself [];
-          seen_own = refl;
-          all_own = refl;
-          seated = ap (λ (b : Bool). cond b (Some 0) None) (eq-eqb n n refl);
-          in_turn = λ inside. absurd (cc);
-          first = λ _. record { is_first_view = refl; joined = λ k d h. absurd (omega arith); new = new; counts = refl }
-        }
+        started = refl;
+        begins = begins-itself [];
+        seen_own = refl;
+        all_own = refl;
+        seated = ap (λ (b : Bool). cond b (Some 0) None) (eq-eqb n n refl);
+        in_turn = λ inside. absurd (cc);
+        first = λ _. record { is_first_view = refl; joined = λ k d h. absurd (omega arith); new = new; counts = refl };
+      }
+
+  pub begins_with : (b : B) (n : ℕ) (slots : List (Option B)) → slots ≡ Some b ∷ [] → history b ≡ [] → job_of b ≡ job start → Rule (opening (0 ∷ 0 ∷ []) slots (first_view start n))
+  begins_with b n slots one empty same_job = subst (λ (xs : List (Option B)). Rule (opening (0 ∷ 0 ∷ []) xs (first_view start n))) (sym one) (begins b n empty same_job)
 
   -- a step that changes nothing
-  pub unchanged : (s : S) (id : ℕ) (v : View M E) → get_elem? s.views id ≡ some v → Rule s → Rule (stepped s 1 (get_or s.words 1 0) id [] v keeps)
+  unchanged : (s : S) (id : ℕ) (v : View M E) → get_elem? s.views id ≡ some v → Rule s → Rule (stepped s 1 (get_or s.words 1 0) id [] v keeps)
   unchanged s id v at r =
       let same : stepped s 1 (get_or s.words 1 0) id [] v keeps ≡ s = λ i. record { words = set-get_or s.words 1 0 i; homes = s.homes; views = set_again s.views id v at i } in
       subst Rule (sym same) r
@@ -96,16 +106,16 @@ module _ {B M E J : Type 0} (owner : E → Option ℕ) (history : B → List E) 
     takes_free : length s.homes ≡ 1 → (is_free : get_or s.words 1 0 ≡ 0)
         → Rule (stepped s 1 1 id [] (record v { knows = entered v.knows (history (r.free is_free).0) }) (takes 0 (Some (r.free is_free).0)))
     takes_free one is_free = record {
-        log = r.log;
-        seat_of = r.seat_of;
-        holder = id;
-        two_words = length-set s.words 1 1 ∙ r.two_words;
-        length_is = get_or-set_other s.words 1 0 1 0 (λ h. omega arith) ∙ r.length_is;
-        free = λ zero. absurd (omega (arith, held));
-        taken = λ _. (set_here s.homes 0 none (omega arith), (w, (at_w, sits.1), refl));
-        longest = (id, w, (at_w, sits.1), seen_all);
-        fits = each_after_set (λ j u. Fits owner r.log r.seat_of start id turn live j u) s.views id w (λ _. mine) others
-      }
+      log = r.log;
+      seat_of = r.seat_of;
+      holder = id;
+      two_words = length-set s.words 1 1 ∙ r.two_words;
+      length_is = get_or-set_other s.words 1 0 1 0 (λ h. omega arith) ∙ r.length_is;
+      free = λ zero. absurd (omega (arith, held));
+      taken = λ _. (set_here s.homes 0 none (omega arith), (w, (at_w, sits.1), refl));
+      longest = (id, w, (at_w, sits.1), seen_all);
+      fits = each_after_set (λ j u. Fits owner r.log r.seat_of start id turn live j u) s.views id w (λ _. mine) others;
+    }
       where
         b : B
         b = (r.free is_free).0
@@ -136,40 +146,40 @@ module _ {B M E J : Type 0} (owner : E → Option ℕ) (history : B → List E) 
 
         mine : Fits owner r.log r.seat_of start id turn live id w
         mine = record {
-            started = fit.started;
-            begins = subst (λ (l : List E). BeginsWith r.log l) (sym seen_all) (begins-itself r.log);
-            seen_own = ap (λ (l : List E). entries_of owner v.knows.number l) seen_all ∙ fit.all_own;
-            all_own = fit.all_own;
-            seated = fit.seated;
-            in_turn = λ _. (held, refl, seen_all);
-            first = λ is_first. let f = fit.first is_first in record { is_first_view = f.is_first_view; joined = f.joined; new = f.new; counts = same_live ∙ f.counts }
-          }
+          started = fit.started;
+          begins = subst (λ (l : List E). BeginsWith r.log l) (sym seen_all) (begins-itself r.log);
+          seen_own = ap (λ (l : List E). entries_of owner v.knows.number l) seen_all ∙ fit.all_own;
+          all_own = fit.all_own;
+          seated = fit.seated;
+          in_turn = λ _. (held, refl, seen_all);
+          first = λ is_first. let f = fit.first is_first in record { is_first_view = f.is_first_view; joined = f.joined; new = f.new; counts = same_live ∙ f.counts };
+        }
 
         others : (j : ℕ) (u : View M E) → j ≢ id → Sits s.views j u → Fits owner r.log r.seat_of start id turn live j u
         others j u other there = let f = r.fits j u there in record {
-            started = f.started;
-            begins = f.begins;
-            seen_own = f.seen_own;
-            all_own = f.all_own;
-            seated = f.seated;
-            in_turn = λ inside. absurd (omega (arith, (f.in_turn inside).0));
-            first = λ is_first. let g = f.first is_first in record { is_first_view = g.is_first_view; joined = g.joined; new = g.new; counts = same_live ∙ g.counts }
-          }
+          started = f.started;
+          begins = f.begins;
+          seen_own = f.seen_own;
+          all_own = f.all_own;
+          seated = f.seated;
+          in_turn = λ inside. absurd (omega (arith, (f.in_turn inside).0));
+          first = λ is_first. let g = f.first is_first in record { is_first_view = g.is_first_view; joined = g.joined; new = g.new; counts = same_live ∙ g.counts };
+        }
 
     -- an entry is counted, while the seat has the turn
     counts_entry : (e : E) → v.knows.in_turn ≡ true → (owner e ≡ None) ⊎ (owner e ≡ Some v.knows.number) → (m : ℕ) → m ≡ get_or s.words 0 0 + 1 → (held : List (ℕ × Option B))
         → Rule (stepped s 0 m id held (record v { knows = with_entry owner v.knows e }) keeps)
     counts_entry e inside allowed m one_more held = record {
-        log = r.log ++ e ∷ [];
-        seat_of = r.seat_of;
-        holder = r.holder;
-        two_words = length-set s.words 0 m ∙ r.two_words;
-        length_is = get_or-set_same s.words 0 m 0 (omega (arith, r.two_words)) ∙ omega (arith, one_more, r.length_is, length-append r.log (e ∷ []));
-        free = λ zero. absurd (omega (arith, turn_same, turn.0));
-        taken = λ _. ((r.taken (λ zero. omega (arith, turn.0))).0, (w, (subst (λ (i : ℕ). get_elem? (set s.views id w) i ≡ some w) turn.1 at_w, sits.1), inside));
-        longest = (id, w, (at_w, sits.1), seen_all);
-        fits = each_after_set (λ j u. Fits owner log r.seat_of start r.holder word live j u) s.views id w (λ _. mine) others
-      }
+      log = r.log ++ e ∷ [];
+      seat_of = r.seat_of;
+      holder = r.holder;
+      two_words = length-set s.words 0 m ∙ r.two_words;
+      length_is = get_or-set_same s.words 0 m 0 (omega (arith, r.two_words)) ∙ omega (arith, one_more, r.length_is, length-append r.log (e ∷ []));
+      free = λ zero. absurd (omega (arith, turn_same, turn.0));
+      taken = λ _. ((r.taken (λ zero. omega (arith, turn.0))).0, (w, (subst (λ (i : ℕ). get_elem? (set s.views id w) i ≡ some w) turn.1 at_w, sits.1), inside));
+      longest = (id, w, (at_w, sits.1), seen_all);
+      fits = each_after_set (λ j u. Fits owner log r.seat_of start r.holder word live j u) s.views id w (λ _. mine) others;
+    }
       where
         log : List E
         log = r.log ++ e ∷ []
@@ -210,48 +220,48 @@ module _ {B M E J : Type 0} (owner : E → Option ℕ) (history : B → List E) 
 
         first_grown : (j : ℕ) (k : Known E) → FitsFirst owner r.log r.seat_of (live_count s.views) j k → FitsFirst owner log r.seat_of live j k
         first_grown j k f = record {
-            is_first_view = f.is_first_view;
-            joined = λ i d h. let p = f.joined i d h in record { entries = grown _ (λ at. none_some (sym p.unseated ∙ at)) ∙ p.entries; was_given = p.was_given; unseated = p.unseated };
-            new = λ n other. let p = f.new n other in (p.0, grown n (λ at. none_some (sym p.0 ∙ at)) ∙ p.1);
-            counts = same_live ∙ f.counts
-          }
+          is_first_view = f.is_first_view;
+          joined = λ i d h. let p = f.joined i d h in record { entries = grown _ (λ at. none_some (sym p.unseated ∙ at)) ∙ p.entries; was_given = p.was_given; unseated = p.unseated };
+          new = λ n other. let p = f.new n other in (p.0, grown n (λ at. none_some (sym p.0 ∙ at)) ∙ p.1);
+          counts = same_live ∙ f.counts;
+        }
 
         mine : Fits owner log r.seat_of start r.holder word live id w
         mine = record {
-            started = fit.started;
-            begins = subst (λ (l : List E). BeginsWith log l) (sym seen_all) (begins-itself log);
-            seen_own = entries_of-append owner v.knows.number v.knows.seen (e ∷ []) ∙ ap (λ (l : List E). l ++ entries_of owner v.knows.number (e ∷ [])) fit.seen_own;
-            all_own = entries_of-append owner v.knows.number r.log (e ∷ []) ∙ ap (λ (l : List E). l ++ entries_of owner v.knows.number (e ∷ [])) fit.all_own;
-            seated = fit.seated;
-            in_turn = λ _. (turn_same ∙ turn.0, turn.1, seen_all);
-            first = λ is_first. let g = first_grown id v.knows (fit.first is_first) in record { is_first_view = g.is_first_view; joined = g.joined; new = g.new; counts = g.counts }
-          }
+          started = fit.started;
+          begins = subst (λ (l : List E). BeginsWith log l) (sym seen_all) (begins-itself log);
+          seen_own = entries_of-append owner v.knows.number v.knows.seen (e ∷ []) ∙ ap (λ (l : List E). l ++ entries_of owner v.knows.number (e ∷ [])) fit.seen_own;
+          all_own = entries_of-append owner v.knows.number r.log (e ∷ []) ∙ ap (λ (l : List E). l ++ entries_of owner v.knows.number (e ∷ [])) fit.all_own;
+          seated = fit.seated;
+          in_turn = λ _. (turn_same ∙ turn.0, turn.1, seen_all);
+          first = λ is_first. let g = first_grown id v.knows (fit.first is_first) in record { is_first_view = g.is_first_view; joined = g.joined; new = g.new; counts = g.counts };
+        }
 
         others : (j : ℕ) (u : View M E) → j ≢ id → Sits s.views j u → Fits owner log r.seat_of start r.holder word live j u
         others j u other there = let f = r.fits j u there in record {
-            started = f.started;
-            begins = begins-grown r.log u.knows.seen (e ∷ []) f.begins;
-            seen_own = f.seen_own;
-            all_own = grown u.knows.number (λ at. other (some_same j id (sym f.seated ∙ at))) ∙ f.all_own;
-            seated = f.seated;
-            in_turn = λ u_inside. absurd (other ((f.in_turn u_inside).1 ∙ sym turn.1));
-            first = λ is_first. first_grown j u.knows (f.first is_first)
-          }
+          started = f.started;
+          begins = begins-grown r.log u.knows.seen (e ∷ []) f.begins;
+          seen_own = f.seen_own;
+          all_own = grown u.knows.number (λ at. other (some_same j id (sym f.seated ∙ at))) ∙ f.all_own;
+          seated = f.seated;
+          in_turn = λ u_inside. absurd (other ((f.in_turn u_inside).1 ∙ sym turn.1));
+          first = λ is_first. first_grown j u.knows (f.first is_first);
+        }
 
     -- the turn is given back, with a machine of the same job that has the history which the seat has seen
     gives_back : (b : B) → length s.homes ≡ 1 → v.knows.in_turn ≡ true → history b ≡ v.knows.seen → job_of b ≡ job start
         → Rule (stepped s 1 0 id ((0, Some b) ∷ []) (record v { knows = outside v.knows }) gives)
     gives_back b one inside same_history same_job = record {
-        log = r.log;
-        seat_of = r.seat_of;
-        holder = r.holder;
-        two_words = length-set s.words 1 0 ∙ r.two_words;
-        length_is = get_or-set_other s.words 1 0 0 0 (λ h. omega arith) ∙ r.length_is;
-        free = λ _. (b, set_here s.homes 0 (some (Some b)) (omega arith), same_history ∙ turn.2, same_job);
-        taken = λ held. absurd (held is_free);
-        longest = (id, w, (at_w, sits.1), turn.2);
-        fits = each_after_set (λ j u. Fits owner r.log r.seat_of start r.holder word live j u) s.views id w (λ _. mine) others
-      }
+      log = r.log;
+      seat_of = r.seat_of;
+      holder = r.holder;
+      two_words = length-set s.words 1 0 ∙ r.two_words;
+      length_is = get_or-set_other s.words 1 0 0 0 (λ h. omega arith) ∙ r.length_is;
+      free = λ _. (b, set_here s.homes 0 (some (Some b)) (omega arith), same_history ∙ turn.2, same_job);
+      taken = λ held. absurd (held is_free);
+      longest = (id, w, (at_w, sits.1), turn.2);
+      fits = each_after_set (λ j u. Fits owner r.log r.seat_of start r.holder word live j u) s.views id w (λ _. mine) others;
+    }
       where
         fit : Fits owner r.log r.seat_of start r.holder (get_or s.words 1 0) (live_count s.views) id v
         fit = r.fits id v sits
@@ -279,58 +289,62 @@ module _ {B M E J : Type 0} (owner : E → Option ℕ) (history : B → List E) 
 
         mine : Fits owner r.log r.seat_of start r.holder word live id w
         mine = record {
-            started = fit.started;
-            begins = fit.begins;
-            seen_own = fit.seen_own;
-            all_own = fit.all_own;
-            seated = fit.seated;
-            in_turn = λ held. absurd (cc);
-            first = λ is_first. let f = fit.first is_first in record { is_first_view = f.is_first_view; joined = f.joined; new = f.new; counts = same_live ∙ f.counts }
-          }
+          started = fit.started;
+          begins = fit.begins;
+          seen_own = fit.seen_own;
+          all_own = fit.all_own;
+          seated = fit.seated;
+          in_turn = λ held. absurd (cc);
+          first = λ is_first. let f = fit.first is_first in record { is_first_view = f.is_first_view; joined = f.joined; new = f.new; counts = same_live ∙ f.counts };
+        }
 
         others : (j : ℕ) (u : View M E) → j ≢ id → Sits s.views j u → Fits owner r.log r.seat_of start r.holder word live j u
         others j u other there = let f = r.fits j u there in record {
-            started = f.started;
-            begins = f.begins;
-            seen_own = f.seen_own;
-            all_own = f.all_own;
-            seated = f.seated;
-            in_turn = λ u_inside. absurd (other ((f.in_turn u_inside).1 ∙ sym turn.1));
-            first = λ is_first. let g = f.first is_first in record { is_first_view = g.is_first_view; joined = g.joined; new = g.new; counts = same_live ∙ g.counts }
-          }
+          started = f.started;
+          begins = f.begins;
+          seen_own = f.seen_own;
+          all_own = f.all_own;
+          seated = f.seated;
+          in_turn = λ u_inside. absurd (other ((f.in_turn u_inside).1 ∙ sym turn.1));
+          first = λ is_first. let g = f.first is_first in record { is_first_view = g.is_first_view; joined = g.joined; new = g.new; counts = same_live ∙ g.counts };
+        }
+
+  -- counting and giving back tell the same of every step
+  abbrev any_step : Step (Option B)
+  any_step = step 0 0 0 0 none
 
   abbrev Holds : Type 0
   Holds = Me (Option B) (View M E)
 
   -- a seat that holds nothing may try to take the turn
-  pub may_take : (step : Step (Option B)) (slots id : ℕ) (me : Holds) → slots ≡ 1 → me.0.is_live ≡ true → me.1 ≡ []
-      → Allows Rule slots id me 1 (λ n. either (eqb n 0) 1 n) (Takes owner history job_of job step me)
-  may_take step slots id me one_slot live empty =
-      subst (λ (held : List (ℕ × Option B)). Allows Rule slots id (me.0, held) 1 (λ n. either (eqb n 0) 1 n) (Takes owner history job_of job step (me.0, held))) (sym empty) with_nothing
+  pub may_take : (take : Step (Option B)) (slots id : ℕ) (me : Holds) → slots ≡ 1 → me.0.is_live ≡ true → me.1 ≡ []
+      → Allows Rule slots id me 1 (λ n. either (eqb n 0) 1 n) (Takes owner history job_of job take me)
+  may_take take slots id me one_slot live empty =
+      subst (λ (held : List (ℕ × Option B)). Allows Rule slots id (me.0, held) 1 (λ n. either (eqb n 0) 1 n) (Takes owner history job_of job take (me.0, held))) (sym empty) with_nothing
     where
       v : View M E
       v = me.0
 
-      with_nothing : Allows Rule slots id (v, []) 1 (λ n. either (eqb n 0) 1 n) (Takes owner history job_of job step (v, []))
+      with_nothing : Allows Rule slots id (v, []) 1 (λ n. either (eqb n 0) 1 n) (Takes owner history job_of job take (v, []))
       with_nothing s r homes at small = exchanged found 0 1 After hit miss
         where
           found : ℕ
           found = get_or s.words 1 0
 
           After : ℕ → Type 0
-          After m = (w : View M E) × (a : Act (Option B)) × Valid s.homes [] a × Rule (stepped s 1 m id [] w a) × Takes owner history job_of job step (v, []) found (w, carried_after [] a)
+          After m = (w : View M E) × (a : Act (Option B)) × Valid s.homes [] a × Rule (stepped s 1 m id [] w a) × Takes owner history job_of job take (v, []) found (w, carried_after [] a)
 
           fit : Fits owner r.log r.seat_of start r.holder found (live_count s.views) id v
           fit = r.fits id v (at, live)
 
           hit : found ≡ 0 → After 1
           hit is_free = (
-              record v { knows = entered v.knows (history b) },
-              takes 0 (Some b),
-              (r.free is_free).1,
-              takes_free s r id v (at, live) (homes ∙ one_slot) is_free,
-              record { taken = λ _. (b, refl, refl, handed); refused = λ not_free. absurd (not_free is_free) },
-            )
+            record v { knows = entered v.knows (history b) },
+            takes 0 (Some b),
+            (r.free is_free).1,
+            takes_free s r id v (at, live) (homes ∙ one_slot) is_free,
+            record { taken = λ _. (b, refl, refl, handed); refused = λ not_free. absurd (not_free is_free) },
+          )
             where
               b : B
               b = (r.free is_free).0
@@ -340,26 +354,26 @@ module _ {B M E J : Type 0} (owner : E → Option ℕ) (history : B → List E) 
 
               handed : HandsOut owner history job_of job v b
               handed = record {
-                  same_job = λ x begun. (r.free is_free).3 ∙ ap job (start_same start x (sym fit.started ∙ begun));
-                  begins = subst (λ (l : List E). BeginsWith l v.knows.seen) (sym same_history) fit.begins;
-                  seen_own = fit.seen_own;
-                  all_own = ap (λ (l : List E). entries_of owner v.knows.number l) same_history ∙ fit.all_own
-                }
+                same_job = λ x begun. (r.free is_free).3 ∙ ap job (start_same start x (sym fit.started ∙ begun));
+                begins = subst (λ (l : List E). BeginsWith l v.knows.seen) (sym same_history) fit.begins;
+                seen_own = fit.seen_own;
+                all_own = ap (λ (l : List E). entries_of owner v.knows.number l) same_history ∙ fit.all_own;
+              }
 
           miss : found ≢ 0 → After found
           miss not_free = (v, keeps, tt, unchanged s id v at r, record { taken = λ is_free. absurd (not_free is_free); refused = λ _. refl })
 
   -- a seat in the turn may count the entry by which the machine that it holds is ahead
-  pub may_count : (step : Step (Option B)) (slots id : ℕ) (me : Holds) (b : B) (e : E) → me.0.is_live ≡ true → me.0.knows.in_turn ≡ true → me.1 ≡ (0, Some b) ∷ [] → history b ≡ me.0.knows.seen ++ e ∷ []
+  pub may_count : (slots id : ℕ) (me : Holds) (b : B) (e : E) → me.0.is_live ≡ true → me.0.knows.in_turn ≡ true → me.1 ≡ (0, Some b) ∷ [] → history b ≡ me.0.knows.seen ++ e ∷ []
       → (owner e ≡ None) ⊎ (owner e ≡ Some me.0.knows.number) → length (history b) < 2 ^ 64
-      → Allows Rule slots id me 0 (λ n. (n + 1) % 2 ^ 64) (Counts owner history step me)
-  may_count step slots id me b e live inside held ahead allowed fits s r homes at small = (
-      record v { knows = with_entry owner v.knows e },
-      keeps,
-      tt,
-      counts_entry s r id v (at, live) e inside allowed ((get_or s.words 0 0 + 1) % 2 ^ 64) no_wrap me.1,
-      λ b' e' held' ahead'. (refl, ap (λ (x : E). record v { knows = with_entry owner v.knows x }) (same_entry b' e' held' ahead')),
-    )
+      → Allows Rule slots id me 0 (λ n. (n + 1) % 2 ^ 64) (Counts owner history any_step me)
+  may_count slots id me b e live inside held ahead allowed fits s r homes at small = (
+    record v { knows = with_entry owner v.knows e },
+    keeps,
+    tt,
+    counts_entry s r id v (at, live) e inside allowed ((get_or s.words 0 0 + 1) % 2 ^ 64) no_wrap me.1,
+    λ b' e' held' ahead'. (refl, ap (λ (x : E). record v { knows = with_entry owner v.knows x }) (same_entry b' e' held' ahead')),
+  )
     where
       v : View M E
       v = me.0
@@ -374,20 +388,20 @@ module _ {B M E J : Type 0} (owner : E → Option ℕ) (history : B → List E) 
       same_entry b' e' held' ahead' = first_same (append_cancel_left v.knows.seen (e ∷ []) (e' ∷ []) (sym ahead ∙ ap history (held_same b b' me.1 held held') ∙ ahead'))
 
   -- a seat in the turn may give it back, with a machine of the cell's job that has the history which the seat has seen
-  pub may_give : (step : Step (Option B)) (slots id : ℕ) (me : Holds) (b : B) → slots ≡ 1 → me.0.is_live ≡ true → me.0.knows.in_turn ≡ true → me.1 ≡ (0, Some b) ∷ [] → history b ≡ me.0.knows.seen
+  pub may_give : (slots id : ℕ) (me : Holds) (b : B) → slots ≡ 1 → me.0.is_live ≡ true → me.0.knows.in_turn ≡ true → me.1 ≡ (0, Some b) ∷ [] → history b ≡ me.0.knows.seen
       → ((x : M) → me.0.start ≡ Some x → job_of b ≡ job x)
-      → Allows Rule slots id me 1 (λ _. 0) (λ _. Gives step me 0)
-  may_give step slots id me b one_slot live inside held same_history same_job =
-      subst (λ (hand : List (ℕ × Option B)). Allows Rule slots id (me.0, hand) 1 (λ _. 0) (λ _. Gives step (me.0, hand) 0)) (sym held) with_machine
+      → Allows Rule slots id me 1 (λ _. 0) (λ _. Gives any_step me 0)
+  may_give slots id me b one_slot live inside held same_history same_job =
+      subst (λ (hand : List (ℕ × Option B)). Allows Rule slots id (me.0, hand) 1 (λ _. 0) (λ _. Gives any_step (me.0, hand) 0)) (sym held) with_machine
     where
       v : View M E
       v = me.0
 
-      with_machine : Allows Rule slots id (v, (0, Some b) ∷ []) 1 (λ _. 0) (λ _. Gives step (v, (0, Some b) ∷ []) 0)
+      with_machine : Allows Rule slots id (v, (0, Some b) ∷ []) 1 (λ _. 0) (λ _. Gives any_step (v, (0, Some b) ∷ []) 0)
       with_machine s r homes at small = (
-          record v { knows = outside v.knows },
-          gives,
-          tt,
-          gives_back s r id v (at, live) b (homes ∙ one_slot) inside same_history (same_job start (r.fits id v (at, live)).started),
-          (refl, refl),
-        )
+        record v { knows = outside v.knows },
+        gives,
+        tt,
+        gives_back s r id v (at, live) b (homes ∙ one_slot) inside same_history (same_job start (r.fits id v (at, live)).started),
+        (refl, refl),
+      )

@@ -91,10 +91,7 @@ impl<M: Machine> TurnCell<M> {
         ensures seat { seat.new.knows ≡ splitting number seat.old.knows }
         ensures new { result ≡ record { cell = self.now; knows = split_off number seat.old.knows } }
     {
-        let inner = self
-            .table
-            .shared
-            .split_seat::<SplitOff<N>>(&mut seat.inner);
+        let inner = self.table.shared.split_seat::<SplitOff<N>>(&mut seat.inner);
         Seat {
             inner,
             seen_length: seat.seen_length,

@@ -12,9 +12,9 @@ join_seat-requires g c =
       c.other.invariant.1 ∙ ap emptied_slots (same_in_turn other_knows ∙ c.requires.other_outside),
       omega (arith, c.self.invariant.0),
       may_join g.M.Machine.owner (λ b. g.M.Machine.history (box_value b)) (λ b. g.M.Machine.job (box_value b)) g.M.Machine.job _ _ _ _ _
-      c.seat.invariant.0
-      c.other.invariant.0
-      (same_is_first knows ∙ c.requires.first)
-      (same_in_turn knows ∙ c.requires.outside)
-      (same_in_turn other_knows ∙ c.requires.other_outside),
+          c.seat.invariant.0
+          c.other.invariant.0
+          (same_is_first knows ∙ c.requires.first)
+          (same_in_turn knows ∙ c.requires.outside)
+          (same_in_turn other_knows ∙ c.requires.other_outside),
     )

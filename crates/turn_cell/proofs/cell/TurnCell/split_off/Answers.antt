@@ -10,8 +10,8 @@ split_seat-inner-requires g c =
       same_table (same_cell c.seat.view_is ∙ c.requires.cell ∙ sym c.self.view_is),
       omega (arith, c.self.invariant.0),
       may_split g.M.Machine.owner (λ b. g.M.Machine.history (box_value b)) (λ b. g.M.Machine.job (box_value b)) g.M.Machine.job _ _ _ _
-      c.seat.invariant.0
-      (same_is_first knows ∙ c.requires.first)
-      (same_in_turn knows ∙ c.requires.outside)
-      (ap (λ given. is_one_of given g.N.Number.number) (same_given knows) ∙ sym (ap (is_one_of c.args.seat.now.knows.given) c.requires.number) ∙ c.requires.fresh),
+          c.seat.invariant.0
+          (same_is_first knows ∙ c.requires.first)
+          (same_in_turn knows ∙ c.requires.outside)
+          (ap (λ given. is_one_of given g.N.Number.number) (same_given knows) ∙ sym (ap (is_one_of c.args.seat.now.knows.given) c.requires.number) ∙ c.requires.fresh),
     )
