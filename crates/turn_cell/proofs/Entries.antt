@@ -4,12 +4,7 @@ use Rattle.std.proofs.lemmas.Bool.{ltb-true, ltb-false}
 use Rattle.std.proofs.lemmas.List.{append-nil, append_cancel_left}
 use Rattle.std.proofs.lemmas.List.Elements.{filter-append}
 use Rattle.turn_cell.specs.Knowledge.{is_one_of}
-use Rattle.turn_cell.specs.History.{belongs_to, entries_of, BeginsWith, longer}
-
--- an owner that is another number, or none
-belongs_to-other : (n : ℕ) (o : Option ℕ) → o ≢ Some n → belongs_to n o ≡ false
-belongs_to-other n None other = refl
-belongs_to-other n (Some m) other = ne_eqb m n (λ e. other (ap Some e))
+use Rattle.turn_cell.specs.History.{belongs_to, belongs_to-other, entries_of, BeginsWith, longer}
 
 -- a number that is none of these is neither the first nor one of the rest
 pub is_one_of-cons : (n : ℕ) (numbers : List ℕ) (m : ℕ) → is_one_of (n ∷ numbers) m ≡ false → (eqb n m ≡ false) × (is_one_of numbers m ≡ false)

@@ -1,5 +1,6 @@
 -- Histories: lists of entries, the oldest first.
-use Rattle.std.specs.Prelude.{◌≡◌, ℕ, Bool, false, cond, ◌==◌, nat_lt, List, ◌++◌, length, filter, fold, Option, Some, None}
+use Rattle.std.specs.Prelude.{◌≡◌, ◌≢◌, ℕ, Bool, false, cond, ◌==◌, nat_lt, List, ◌++◌, length, filter, fold, Option, Some, None, refl}
+use Rattle.std.proofs.Common.{ap, ne_eqb}
 
 -- the state after these entries, where `after` gives the state after one entry
 abbrev pub replay : {S E : Type 0} → (S → E → S) → S → List E → S
@@ -9,6 +10,11 @@ replay after state entries = fold after state entries
 abbrev pub belongs_to : ℕ → Option ℕ → Bool
 belongs_to n None = false
 belongs_to n (Some m) = m == n
+
+-- what another number owns, or none, does not belong to n
+pub belongs_to-other : (n : ℕ) (owner : Option ℕ) → owner ≢ Some n → belongs_to n owner ≡ false
+belongs_to-other n None other = refl
+belongs_to-other n (Some m) other = ne_eqb m n (λ e. other (ap Some e))
 
 module _ {E : Type 0} where
   -- the entries that belong to the number n, in their order

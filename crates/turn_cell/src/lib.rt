@@ -8,6 +8,8 @@ mod knowledge;
 mod machine;
 mod seat;
 mod steps;
+#[cfg(test)]
+mod tests;
 
 pub use cell::TurnCell;
 pub use machine::Machine;
