@@ -1,16 +1,39 @@
 -- What the closed table has, where the first seat has joined all others.
-use Rattle.std.proofs.Common.{◌≡◌, ◌≢◌, ℕ, zero, suc, ◌+◌, Bool, true, false, List, [], ◌∷◌, length, get_or, refl, sym, ◌∙◌, ap, subst, arith, All, Option, Some, None}
+use Rattle.std.proofs.Common.{◌≡◌, ◌≢◌, ℕ, zero, suc, ◌+◌, ◌||◌, Bool, true, false, cond, eqb, eq-eqb, ne_eqb, map, List, [], ◌∷◌, length, get_or, refl, sym, ◌∙◌, ap, subst, arith, All, Option, Some, None}
+use Rattle.std.proofs.lemmas.Bool.{eqb-true}
 use mathlib.Core.Option.{some, some-injective}
 use mathlib.Core.Logic.{dite}
 use native.Mathlib.Decide.{ℕ_discrete}
 use lib.ListN.{get_elem?}
 use Rattle.atomic_table.specs.Table.{State, Final, Seen}
 use Rattle.turn_cell.specs.History.{entries_of}
-use Rattle.turn_cell.specs.Knowledge.{is_one_of}
+use Rattle.turn_cell.specs.Knowledge.{is_one_of, joined_entries, entries_left}
 use Rattle.turn_cell.specs.Rule.{live_count, Sits, FitsFirst, Fits, InTurns}
 use Rattle.turn_cell.specs.declared.knowledge.Known.{Known}
 use Rattle.turn_cell.specs.declared.knowledge.View.{View}
 use Rattle.turn_cell.proofs.Views.{same_view, only_one}
+
+none_some : {n : ℕ} → None ≡ Some n → ⊥
+none_some e = cc
+
+-- what a number that was not given out has left: nothing
+none_of_joined : {E : Type 0} (given : List ℕ) (joined : List (ℕ × List E)) (n : ℕ) → All (λ p. is_one_of given p.0 ≡ true) joined → is_one_of given n ≡ false → joined_entries joined n ≡ []
+none_of_joined given [] n all_given other = refl
+none_of_joined {E = E} given (p ∷ joined) n all_given other = by_test (eqb p.0 n) refl (none_of_joined given joined n (λ k d h. all_given (suc k) d (omega arith)) other)
+  where
+    by_test : (b : Bool) → eqb p.0 n ≡ b → joined_entries joined n ≡ [] → cond b p.1 (joined_entries joined n) ≡ []
+    by_test true same rest = let here : is_one_of given p.0 ≡ true = all_given 0 p (omega arith) in let there : is_one_of given n ≡ true = sym (ap (λ (m : ℕ). is_one_of given m) (eqb-true p.0 n same)) ∙ here in absurd (cc)
+    by_test false apart rest = rest
+
+module _ {E : Type 0} (owner : E → Option ℕ) (log : List E) where
+  -- what a joined number has left: its entries
+  all_of_joined : (joined : List (ℕ × List E)) (n : ℕ) → All (λ p. entries_of owner p.0 log ≡ p.1) joined → is_one_of (map (λ p. p.0) joined) n ≡ true → entries_of owner n log ≡ joined_entries joined n
+  all_of_joined [] n exact there = absurd (cc)
+  all_of_joined (p ∷ joined) n exact there = by_test (eqb p.0 n) refl there (all_of_joined joined n (λ k d h. exact (suc k) d (omega arith)))
+    where
+      by_test : (b : Bool) → eqb p.0 n ≡ b → (b || is_one_of (map (λ q. q.0) joined) n) ≡ true → (is_one_of (map (λ q. q.0) joined) n ≡ true → entries_of owner n log ≡ joined_entries joined n) → entries_of owner n log ≡ cond b p.1 (joined_entries joined n)
+      by_test true same found rest = ap (λ (m : ℕ). entries_of owner m log) (sym (eqb-true p.0 n same)) ∙ exact 0 p (omega arith)
+      by_test false apart found rest = rest found
 
 module _ {B M E J : Type 0} (owner : E → Option ℕ) (history : B → List E) (job_of : B → J) (job : M → J) (start : M) where
   abbrev Rule : State (Option B) (View M E) → Type 0
@@ -23,6 +46,7 @@ module _ {B M E J : Type 0} (owner : E → Option ℕ) (history : B → List E) 
     pub own : entries_of owner k.number (history b) ≡ k.own_entries
     pub joined : All (λ p. entries_of owner p.0 (history b) ≡ p.1) k.joined
     pub not_given : (n : ℕ) → is_one_of k.given n ≡ false → entries_of owner n (history b) ≡ []
+    pub every_number : (n : ℕ) → entries_of owner n (history b) ≡ entries_left k n
 
   -- the slot has such a machine
   pub record Found (k : Known E) (found : Option B) : Type 0 where
@@ -41,6 +65,7 @@ module _ {B M E J : Type 0} (owner : E → Option ℕ) (history : B → List E) 
       own = ap (λ (l : List E). entries_of owner v.knows.number l) is_log ∙ fit.all_own;
       joined = λ k d h. ap (λ (l : List E). entries_of owner (get_or v.knows.joined k d).0 l) is_log ∙ (first.joined k d h).entries;
       not_given = λ n other. ap (λ (l : List E). entries_of owner n l) is_log ∙ (first.new n other).1;
+      every_number = λ n. ap (λ (l : List E). entries_of owner n l) is_log ∙ every n (is_one_of v.knows.given n) refl;
     };
   }
     where
@@ -70,6 +95,23 @@ module _ {B M E J : Type 0} (owner : E → Option ℕ) (history : B → List E) 
 
       is_log : history b ≡ r.log
       is_log = there.2
+
+      -- the entries of a number, by whether it was given out, and whether a seat has it
+      every : (n : ℕ) (b : Bool) → is_one_of v.knows.given n ≡ b → entries_of owner n r.log ≡ entries_left v.knows n
+      every n true given = seated (r.seat_of n) refl
+        where
+          seated : (o : Option ℕ) → r.seat_of n ≡ o → entries_of owner n r.log ≡ entries_left v.knows n
+          seated (Some i) e =
+              let t = r.sat n i e in
+              let same : v.knows.number ≡ n = sym (ap (λ (x : View M E). x.knows.number) (alone i t.0 t.1)) ∙ t.2 in
+              ap (λ (m : ℕ). entries_of owner m r.log) (sym same) ∙ fit.all_own ∙ sym (ap (λ (b : Bool). cond b v.knows.own_entries (joined_entries v.knows.joined n)) (eq-eqb v.knows.number n same))
+          seated None e =
+              all_of_joined owner r.log v.knows.joined n (λ k d h. (first.joined k d h).entries) (first.all_known n given e)
+              ∙ sym (ap (λ (b : Bool). cond b v.knows.own_entries (joined_entries v.knows.joined n)) (ne_eqb v.knows.number n (λ same. none_some (sym e ∙ sym (ap r.seat_of same) ∙ fit.seated))))
+      every n false other =
+          let nothing = first.new n other in
+          nothing.1 ∙ sym (ap (λ (b : Bool). cond b v.knows.own_entries (joined_entries v.knows.joined n)) (ne_eqb v.knows.number n (λ same. none_some (sym nothing.0 ∙ sym (ap r.seat_of same) ∙ fit.seated)))
+          ∙ none_of_joined v.knows.given v.knows.joined n (λ k d h. (first.joined k d h).was_given) other)
 
       seen_all : v.knows.seen ≡ r.log
       seen_all = sym (ap (λ (x : View M E). x.knows.seen) (alone r.longest.0 r.longest.1 r.longest.2)) ∙ r.longest.3

@@ -1,12 +1,13 @@
 -- The steps by which a seat is split off the first one, and by which another seat is joined with it.
-use Rattle.std.proofs.Common.{◌≡◌, ◌≢◌, ℕ, zero, suc, ◌+◌, ◌-◌, ◌<◌, ◌≤◌, ◌⊎◌, ◌||◌, Bool, true, false, cond, eqb, eq-eqb, ne_eqb, List, [], ◌∷◌, ◌++◌, length, get_or, set, refl, sym, ◌∙◌, ap, subst, inl, inr, ⊎_elim, arith, Option, Some, None}
+use Rattle.std.proofs.Common.{◌≡◌, ◌≢◌, ℕ, zero, suc, ◌+◌, ◌-◌, ◌<◌, ◌≤◌, ◌⊎◌, ◌||◌, Bool, true, false, cond, eqb, eq-eqb, ne_eqb, List, [], ◌∷◌, ◌++◌, length, map, get_or, set, refl, sym, ◌∙◌, ap, subst, inl, inr, ⊎_elim, arith, Option, Some, None}
+use Rattle.std.proofs.lemmas.Bool.{eqb-true}
 use Rattle.std.proofs.lemmas.List.Elements.{All-cons}
 use mathlib.Core.Option.{some, none, some-injective, some-ne-none}
 use mathlib.Core.Logic.{dite}
 use native.Mathlib.Decide.{ℕ_discrete}
 use lib.ListN.{get_elem?}
 use Rattle.atomic_table.specs.Table.{State, Splits, Joins}
-use Rattle.atomic_table.proofs.Lists.{set_else}
+use Rattle.atomic_table.proofs.Lists.{set_else, at_last}
 use Rattle.turn_cell.specs.History.{entries_of, BeginsWith, longer}
 use Rattle.turn_cell.specs.Knowledge.{is_one_of, splitting, split_off, joining}
 use Rattle.turn_cell.specs.Rule.{live_count, Sits, IsJoined, FitsFirst, Fits, InTurns}
@@ -14,7 +15,7 @@ use Rattle.turn_cell.specs.Steps.{splitting_view, split_view, joining_view, spen
 use Rattle.turn_cell.specs.declared.knowledge.Known.{Known}
 use Rattle.turn_cell.specs.declared.knowledge.View.{View}
 use Rattle.turn_cell.proofs.Entries.{is_one_of-cons, entries_of-begins, entries_of-longer, begins-longer, longer-first, longer-second}
-use Rattle.turn_cell.proofs.Views.{at_changed, sits_set, sits_push, same_view, live_count-same, live_count-more, live_count-gone, only_one, each_after_set, each_after_push}
+use Rattle.turn_cell.proofs.Views.{at_changed, sat_after_set, sits_set, sits_push, same_view, live_count-same, live_count-more, live_count-gone, only_one, each_after_set, each_after_push}
 
 some_same : (m n : ℕ) → Some m ≡ Some n → m ≡ n
 some_same m n e = cc
@@ -50,6 +51,7 @@ module _ {B M E J : Type 0} (owner : E → Option ℕ) (history : B → List E) 
     free = r.free;
     taken = λ held. let t = r.taken held in (t.0, (t.1.0, kept_view r.holder t.1.0 (not_holder held) t.1.1, t.1.2));
     longest = dite (ℕ_discrete r.longest.0 id) longest_here longest_there;
+    sat = λ m i e. sat m i (eqb n m) refl e;
     fits = each_after_push P changed new (λ _. of_new) (each_after_set P s.views id left (λ _. of_first) of_others);
   }
     where
@@ -115,6 +117,14 @@ module _ {B M E J : Type 0} (owner : E → Option ℕ) (history : B → List E) 
       longest_there : r.longest.0 ≢ id → (i : ℕ) × (u : View M E) × Sits (changed ++ new ∷ []) i u × (u.knows.seen ≡ r.log)
       longest_there other = (r.longest.0, r.longest.1, kept_view r.longest.0 r.longest.1 other r.longest.2, r.longest.3)
 
+      known_still : (m : ℕ) (b : Bool) → (b || is_one_of v.knows.given m) ≡ true → cond b (Some place) (r.seat_of m) ≡ None → is_one_of (map (λ p. p.0) v.knows.joined) m ≡ true
+      known_still m true given nobody = absurd (none_some (sym nobody))
+      known_still m false given nobody = first.all_known m given nobody
+
+      sat : (m i : ℕ) (b : Bool) → eqb n m ≡ b → cond b (Some place) (r.seat_of m) ≡ Some i → (u : View M E) × Sits (changed ++ new ∷ []) i u × (u.knows.number ≡ m)
+      sat m i true same e = (new, (subst (λ (k : ℕ). get_elem? (changed ++ new ∷ []) k ≡ some new) (some_same place i e) (at_last changed new place refl), refl), eqb-true n m same)
+      sat m i false other e = let t = sat_after_set r.seat_of s.views id v left sits live refl r.sat m i e in (t.0, sits_push changed i new t.0 t.1, t.2)
+
       of_new : P place new
       of_new = record {
         started = fit.started;
@@ -145,6 +155,7 @@ module _ {B M E J : Type 0} (owner : E → Option ℕ) (history : B → List E) 
             unseated = unseated_still q.0 (joined_apart q p) p.unseated;
           };
           new = λ m other. let t = is_one_of-cons n v.knows.given m other in let q = first.new m t.1 in (unseated_still m t.0 q.0, q.1);
+          all_known = λ m given nobody. known_still m (eqb n m) given nobody;
           counts = omega (arith, one_live_more, first.counts);
         };
       }
@@ -172,6 +183,7 @@ module _ {B M E J : Type 0} (owner : E → Option ℕ) (history : B → List E) 
     free = r.free;
     taken = λ held. let t = r.taken held in (t.0, (t.1.0, kept_view r.holder t.1.0 (not_holder id v sits is_outside held) (not_holder gone w w_sits w_outside held) t.1.1, t.1.2));
     longest = dite (ℕ_discrete r.longest.0 id) longest_here (λ other. dite (ℕ_discrete r.longest.0 gone) longest_gone (longest_there other));
+    sat = λ m i e. sat m i (eqb w.knows.number m) refl e;
     fits = each_after_set P changed gone spent_view (λ there. absurd (cc)) (λ j u still sits_j. each_after_set Q s.views id both (λ _ _. of_first) of_others j u sits_j still);
   }
     where
@@ -245,6 +257,20 @@ module _ {B M E J : Type 0} (owner : E → Option ℕ) (history : B → List E) 
       longest_there : r.longest.0 ≢ id → r.longest.0 ≢ gone → (i : ℕ) × (u : View M E) × Sits after i u × (u.knows.seen ≡ r.log)
       longest_there other still = (r.longest.0, r.longest.1, kept_view r.longest.0 r.longest.1 other still r.longest.2, r.longest.3)
 
+      known_still : (m : ℕ) (b : Bool) → is_one_of v.knows.given m ≡ true → cond b None (r.seat_of m) ≡ None → (b || is_one_of (map (λ p. p.0) v.knows.joined) m) ≡ true
+      known_still m true given nobody = refl
+      known_still m false given nobody = first.all_known m given nobody
+
+      sat : (m i : ℕ) (b : Bool) → eqb w.knows.number m ≡ b → cond b None (r.seat_of m) ≡ Some i → (u : View M E) × Sits after i u × (u.knows.number ≡ m)
+      sat m i true same e = absurd (none_some e)
+      sat m i false other e = let t = sat_after_set r.seat_of s.views id v both sits live refl r.sat m i e in (t.0, sits_set changed gone i spent_view t.0 not_gone t.1, t.2)
+        where
+          not_gone : i ≢ gone
+          not_gone same =
+              let u = r.sat m i e in
+              let here : u.0 ≡ w = same_view s.views gone u.0 w (subst (λ (k : ℕ). get_elem? s.views k ≡ some u.0) same u.1.0) w_sits.0 in
+              let yes : eqb w.knows.number m ≡ true = eq-eqb w.knows.number m (sym (ap (λ (x : View M E). x.knows.number) here) ∙ u.2) in cc
+
       w_given : (b : Bool) → is_one_of v.knows.given w.knows.number ≡ b → is_one_of v.knows.given w.knows.number ≡ true
       w_given true e = e
       w_given false e = absurd (none_some (sym (first.new w.knows.number e).0 ∙ w_fit.seated))
@@ -267,6 +293,7 @@ module _ {B M E J : Type 0} (owner : E → Option ℕ) (history : B → List E) 
               })
               (λ k d h. let p = first.joined k d h in let q = get_or v.knows.joined k d in record { entries = p.entries; was_given = p.was_given; unseated = still_none (eqb w.knows.number q.0) (r.seat_of q.0) p.unseated });
           new = λ m other. let q = first.new m other in (still_none (eqb w.knows.number m) (r.seat_of m) q.0, q.1);
+          all_known = λ m given nobody. known_still m (eqb w.knows.number m) given nobody;
           counts = omega (arith, one_live_less, first.counts, some_unjoined);
         };
       }

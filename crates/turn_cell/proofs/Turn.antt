@@ -1,5 +1,6 @@
 -- The rule at the beginning, and the steps by which the turn is taken, an entry is counted and the turn is given back.
-use Rattle.std.proofs.Common.{◌≡◌, ◌≢◌, ℕ, zero, suc, ◌+◌, ◌%◌, ◌^◌, ◌<◌, ◌≤◌, ◌⊎◌, Bool, true, false, cond, eqb, eq-eqb, List, [], ◌∷◌, ◌++◌, length, get_or, set, refl, sym, ◌∙◌, ap, subst, inl, inr, ⊎_elim, arith, length-set, length-append, option_map, Option, Some, None}
+use Rattle.std.proofs.Common.{◌≡◌, ◌≢◌, ℕ, zero, suc, ◌+◌, ◌%◌, ◌^◌, ◌<◌, ◌≤◌, ◌⊎◌, ◌||◌, Bool, true, false, cond, eqb, eq-eqb, List, [], ◌∷◌, ◌++◌, length, get_or, set, refl, sym, ◌∙◌, ap, subst, inl, inr, ⊎_elim, arith, length-set, length-append, option_map, Option, Some, None}
+use Rattle.std.proofs.lemmas.Bool.{eqb-true}
 use Rattle.std.proofs.lemmas.List.{get_or-set_same, get_or-set_other, set-get_or, append_cancel_left}
 use mathlib.Core.Option.{some, none, some-injective, some-ne-none}
 use lib.ListN.{get_elem?}
@@ -13,7 +14,7 @@ use Rattle.turn_cell.specs.Steps.{first_view, HandsOut, Takes, Counts, Gives}
 use Rattle.turn_cell.specs.declared.knowledge.Known.{Known}
 use Rattle.turn_cell.specs.declared.knowledge.View.{View}
 use Rattle.turn_cell.proofs.Entries.{is_one_of-cons, entries_of-append, entries_of-other, begins-grown, begins-itself}
-use Rattle.turn_cell.proofs.Views.{at_changed, live_count-same, each_after_set, each_after_push}
+use Rattle.turn_cell.proofs.Views.{at_changed, sat_after_set, live_count-same, each_after_set, each_after_push}
 
 some_same : (m n : ℕ) → Some m ≡ Some n → m ≡ n
 some_same m n e = cc
@@ -72,6 +73,7 @@ module _ {B M E J : Type 0} (owner : E → Option ℕ) (history : B → List E) 
     free = λ _. (b, refl, empty, same_job);
     taken = λ ne. absurd (ne refl);
     longest = (0, first_view start n, (refl, refl), refl);
+    sat = λ m i e. sat m i (eqb n m) refl e;
     fits = each_after_push (λ id v. Fits owner [] seat_of start 0 0 1 id v) [] (first_view start n) (λ _. first) (λ j u sits. absurd (some-ne-none u (sym sits.0)));
   }
     where
@@ -81,6 +83,14 @@ module _ {B M E J : Type 0} (owner : E → Option ℕ) (history : B → List E) 
       new : (m : ℕ) → is_one_of (n ∷ []) m ≡ false → (seat_of m ≡ None) × (entries_of owner m [] ≡ [])
       new m other = (ap (λ (b : Bool). cond b (Some 0) None) (is_one_of-cons n [] m other).0, refl)
 
+      given_sat : (b : Bool) → (b || false) ≡ true → cond {A = Option ℕ} b (Some 0) None ≡ None → ⊥
+      given_sat true given nobody = cc
+      given_sat false given nobody = cc
+
+      sat : (m i : ℕ) (b : Bool) → eqb n m ≡ b → cond {A = Option ℕ} b (Some 0) None ≡ Some i → (v : View M E) × Sits (first_view start n ∷ []) i v × (v.knows.number ≡ m)
+      sat m i true same e = (first_view start n, (subst (λ (k : ℕ). get_elem? (first_view {E = E} start n ∷ []) k ≡ some (first_view {E = E} start n)) (some_same 0 i e) refl, refl), eqb-true n m same)
+      sat m i false other e = absurd (none_some e)
+
       first : Fits owner [] seat_of start 0 0 1 0 (first_view start n)
       first = record {
         started = refl;
@@ -89,7 +99,7 @@ module _ {B M E J : Type 0} (owner : E → Option ℕ) (history : B → List E) 
         all_own = refl;
         seated = ap (λ (b : Bool). cond b (Some 0) None) (eq-eqb n n refl);
         in_turn = λ inside. absurd (cc);
-        first = λ _. record { is_first_view = refl; joined = λ k d h. absurd (omega arith); new = new; counts = refl };
+        first = λ _. record { is_first_view = refl; joined = λ k d h. absurd (omega arith); new = new; all_known = λ m given nobody. absurd (given_sat (eqb n m) given nobody); counts = refl };
       }
 
   pub begins_with : (b : B) (n : ℕ) (slots : List (Option B)) → slots ≡ Some b ∷ [] → history b ≡ [] → job_of b ≡ job start → Rule (opening (0 ∷ 0 ∷ []) slots (first_view start n))
@@ -114,6 +124,7 @@ module _ {B M E J : Type 0} (owner : E → Option ℕ) (history : B → List E) 
       free = λ zero. absurd (omega (arith, held));
       taken = λ _. (set_here s.homes 0 none (omega arith), (w, (at_w, sits.1), refl));
       longest = (id, w, (at_w, sits.1), seen_all);
+      sat = sat_after_set r.seat_of s.views id v w sits sits.1 refl r.sat;
       fits = each_after_set (λ j u. Fits owner r.log r.seat_of start id turn live j u) s.views id w (λ _. mine) others;
     }
       where
@@ -152,7 +163,7 @@ module _ {B M E J : Type 0} (owner : E → Option ℕ) (history : B → List E) 
           all_own = fit.all_own;
           seated = fit.seated;
           in_turn = λ _. (held, refl, seen_all);
-          first = λ is_first. let f = fit.first is_first in record { is_first_view = f.is_first_view; joined = f.joined; new = f.new; counts = same_live ∙ f.counts };
+          first = λ is_first. let f = fit.first is_first in record { is_first_view = f.is_first_view; joined = f.joined; new = f.new; all_known = f.all_known; counts = same_live ∙ f.counts };
         }
 
         others : (j : ℕ) (u : View M E) → j ≢ id → Sits s.views j u → Fits owner r.log r.seat_of start id turn live j u
@@ -163,7 +174,7 @@ module _ {B M E J : Type 0} (owner : E → Option ℕ) (history : B → List E) 
           all_own = f.all_own;
           seated = f.seated;
           in_turn = λ inside. absurd (omega (arith, (f.in_turn inside).0));
-          first = λ is_first. let g = f.first is_first in record { is_first_view = g.is_first_view; joined = g.joined; new = g.new; counts = same_live ∙ g.counts };
+          first = λ is_first. let g = f.first is_first in record { is_first_view = g.is_first_view; joined = g.joined; new = g.new; all_known = g.all_known; counts = same_live ∙ g.counts };
         }
 
     -- an entry is counted, while the seat has the turn
@@ -178,6 +189,7 @@ module _ {B M E J : Type 0} (owner : E → Option ℕ) (history : B → List E) 
       free = λ zero. absurd (omega (arith, turn_same, turn.0));
       taken = λ _. ((r.taken (λ zero. omega (arith, turn.0))).0, (w, (subst (λ (i : ℕ). get_elem? (set s.views id w) i ≡ some w) turn.1 at_w, sits.1), inside));
       longest = (id, w, (at_w, sits.1), seen_all);
+      sat = sat_after_set r.seat_of s.views id v w sits sits.1 refl r.sat;
       fits = each_after_set (λ j u. Fits owner log r.seat_of start r.holder word live j u) s.views id w (λ _. mine) others;
     }
       where
@@ -223,6 +235,7 @@ module _ {B M E J : Type 0} (owner : E → Option ℕ) (history : B → List E) 
           is_first_view = f.is_first_view;
           joined = λ i d h. let p = f.joined i d h in record { entries = grown _ (λ at. none_some (sym p.unseated ∙ at)) ∙ p.entries; was_given = p.was_given; unseated = p.unseated };
           new = λ n other. let p = f.new n other in (p.0, grown n (λ at. none_some (sym p.0 ∙ at)) ∙ p.1);
+          all_known = f.all_known;
           counts = same_live ∙ f.counts;
         }
 
@@ -234,7 +247,7 @@ module _ {B M E J : Type 0} (owner : E → Option ℕ) (history : B → List E) 
           all_own = entries_of-append owner v.knows.number r.log (e ∷ []) ∙ ap (λ (l : List E). l ++ entries_of owner v.knows.number (e ∷ [])) fit.all_own;
           seated = fit.seated;
           in_turn = λ _. (turn_same ∙ turn.0, turn.1, seen_all);
-          first = λ is_first. let g = first_grown id v.knows (fit.first is_first) in record { is_first_view = g.is_first_view; joined = g.joined; new = g.new; counts = g.counts };
+          first = λ is_first. let g = first_grown id v.knows (fit.first is_first) in record { is_first_view = g.is_first_view; joined = g.joined; new = g.new; all_known = g.all_known; counts = g.counts };
         }
 
         others : (j : ℕ) (u : View M E) → j ≢ id → Sits s.views j u → Fits owner log r.seat_of start r.holder word live j u
@@ -260,6 +273,7 @@ module _ {B M E J : Type 0} (owner : E → Option ℕ) (history : B → List E) 
       free = λ _. (b, set_here s.homes 0 (some (Some b)) (omega arith), same_history ∙ turn.2, same_job);
       taken = λ held. absurd (held is_free);
       longest = (id, w, (at_w, sits.1), turn.2);
+      sat = sat_after_set r.seat_of s.views id v w sits sits.1 refl r.sat;
       fits = each_after_set (λ j u. Fits owner r.log r.seat_of start r.holder word live j u) s.views id w (λ _. mine) others;
     }
       where
@@ -295,7 +309,7 @@ module _ {B M E J : Type 0} (owner : E → Option ℕ) (history : B → List E) 
           all_own = fit.all_own;
           seated = fit.seated;
           in_turn = λ held. absurd (cc);
-          first = λ is_first. let f = fit.first is_first in record { is_first_view = f.is_first_view; joined = f.joined; new = f.new; counts = same_live ∙ f.counts };
+          first = λ is_first. let f = fit.first is_first in record { is_first_view = f.is_first_view; joined = f.joined; new = f.new; all_known = f.all_known; counts = same_live ∙ f.counts };
         }
 
         others : (j : ℕ) (u : View M E) → j ≢ id → Sits s.views j u → Fits owner r.log r.seat_of start r.holder word live j u
@@ -306,7 +320,7 @@ module _ {B M E J : Type 0} (owner : E → Option ℕ) (history : B → List E) 
           all_own = f.all_own;
           seated = f.seated;
           in_turn = λ u_inside. absurd (other ((f.in_turn u_inside).1 ∙ sym turn.1));
-          first = λ is_first. let g = f.first is_first in record { is_first_view = g.is_first_view; joined = g.joined; new = g.new; counts = same_live ∙ g.counts };
+          first = λ is_first. let g = f.first is_first in record { is_first_view = g.is_first_view; joined = g.joined; new = g.new; all_known = g.all_known; counts = same_live ∙ g.counts };
         }
 
   -- counting and giving back tell the same of every step

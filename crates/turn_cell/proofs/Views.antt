@@ -1,7 +1,9 @@
 -- Lists of views: how many seats are there, and each view after one was changed or added.
-use Rattle.std.proofs.Common.{◌≡◌, ◌≢◌, ℕ, zero, suc, ◌+◌, ◌⊎◌, Bool, true, false, cond, List, [], ◌∷◌, ◌++◌, length, set, refl, sym, ◌∙◌, ap, subst, inl, inr, ⊎_elim, arith}
+use Rattle.std.proofs.Common.{◌≡◌, ◌≢◌, ℕ, zero, suc, ◌+◌, ◌⊎◌, Bool, true, false, cond, List, [], ◌∷◌, ◌++◌, length, set, refl, sym, ◌∙◌, ap, subst, inl, inr, ⊎_elim, arith, Option, Some}
 use mathlib.Core.Option.{some, some-injective, some-ne-none}
 use Rattle.std.proofs.lemmas.List.Sums.{sum_by-cons}
+use mathlib.Core.Logic.{dite}
+use native.Mathlib.Decide.{ℕ_discrete}
 use lib.ListN.{get_elem?}
 use Rattle.atomic_table.proofs.Lists.{at_set, set_else, at_longer}
 use Rattle.turn_cell.specs.Rule.{live_count, Sits}
@@ -92,3 +94,22 @@ module _ {M E : Type 0} where
       → (j : ℕ) (u : View M E) → Sits (views ++ w ∷ []) j u → P j u
   each_after_push P views w here others j u sits =
       ⊎_elim (λ t. others j u (t, sits.1)) (λ t. subst (λ (i : ℕ). P i u) (sym t.0) (subst (λ (x : View M E). P (length views) x) t.1 (here (ap (λ (x : View M E). x.is_live) t.1 ∙ sits.1)))) (at_end views w u j sits.0)
+
+  -- whose numbers they are, after a view was changed that keeps its number
+  pub sat_after_set : (seat_of : ℕ → Option ℕ) (views : List (View M E)) (id : ℕ) (v w : View M E) → Sits views id v → w.is_live ≡ true → w.knows.number ≡ v.knows.number
+      → ((n i : ℕ) → seat_of n ≡ Some i → (u : View M E) × Sits views i u × (u.knows.number ≡ n))
+      → (n i : ℕ) → seat_of n ≡ Some i → (u : View M E) × Sits (set views id w) i u × (u.knows.number ≡ n)
+  sat_after_set seat_of views id v w sits live same_number sat n i e = dite (ℕ_discrete i id) here there
+    where
+      t : (u : View M E) × Sits views i u × (u.knows.number ≡ n)
+      t = sat n i e
+
+      here : i ≡ id → (u : View M E) × Sits (set views id w) i u × (u.knows.number ≡ n)
+      here same = (
+        w,
+        (subst (λ (j : ℕ). get_elem? (set views id w) j ≡ some w) (sym same) (at_changed views id v w sits.0), live),
+        same_number ∙ sym (ap (λ (x : View M E). x.knows.number) (same_view views id t.0 v (subst (λ (j : ℕ). get_elem? views j ≡ some t.0) same t.1.0) sits.0)) ∙ t.2,
+      )
+
+      there : i ≢ id → (u : View M E) × Sits (set views id w) i u × (u.knows.number ≡ n)
+      there other = (t.0, sits_set views id i w t.0 other t.1, t.2)

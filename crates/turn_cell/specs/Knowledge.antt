@@ -1,5 +1,5 @@
 -- What a seat knows, and what each call makes of it.
-use Rattle.std.specs.Prelude.{ℕ, ◌+◌, ◌-◌, ◌==◌, Bool, true, false, List, [], ◌∷◌, ◌++◌, Option}
+use Rattle.std.specs.Prelude.{ℕ, ◌+◌, ◌-◌, ◌==◌, Bool, true, false, cond, List, [], ◌∷◌, ◌++◌, Option}
 use Rattle.std.specs.List.{list_any}
 use Rattle.turn_cell.specs.History.{entries_of, longer}
 use Rattle.turn_cell.specs.declared.knowledge.Known.{Known}
@@ -36,3 +36,12 @@ module _ {E : Type 0} where
   -- the first seat, after another was joined: it has seen what either had, and knows what the other left
   abbrev pub joining : Known E → Known E → Known E
   joining k other = record k { seen = longer k.seen other.seen; joined = (other.number, other.own_entries) ∷ k.joined; unjoined = k.unjoined - 1 }
+
+  -- the entries that the joined seat with the number n left
+  abbrev pub joined_entries : List (ℕ × List E) → ℕ → List E
+  joined_entries [] n = []
+  joined_entries (p ∷ joined) n = cond (p.0 == n) p.1 (joined_entries joined n)
+
+  -- the entries that the seat with the number n left, where it is the first seat or was joined
+  abbrev pub entries_left : Known E → ℕ → List E
+  entries_left k n = cond (k.number == n) k.own_entries (joined_entries k.joined n)

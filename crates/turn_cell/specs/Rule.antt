@@ -1,7 +1,7 @@
 -- The rule that every atomic step keeps.
 -- The table has two words and one slot. Word 0 is the length of the history. Word 1 is 0 where the turn is free and 1 where a seat has it. While the turn is free, the machine is at home in the slot.
 -- The rule speaks of lists of entries. It holds no state of a machine.
-use Rattle.std.specs.Prelude.{◌≡◌, ◌≢◌, ℕ, ◌+◌, Bool, true, false, List, [], ◌∷◌, length, count_by, slice_index, All, Option, Some, None}
+use Rattle.std.specs.Prelude.{◌≡◌, ◌≢◌, ℕ, ◌+◌, Bool, true, false, List, [], ◌∷◌, length, map, count_by, slice_index, All, Option, Some, None}
 use mathlib.Core.Option.{some, none}
 use lib.ListN.{get_elem?}
 use Rattle.atomic_table.specs.Table.{State}
@@ -27,11 +27,12 @@ module _ {E : Type 0} (owner : E → Option ℕ) (log : List E) (seat_of : ℕ �
     pub was_given : is_one_of given p.0 ≡ true
     pub unseated : seat_of p.0 ≡ None
 
-  -- what the first seat knows: the joined numbers, that every other number is new and has no entry, and how many seats are there beside itself
+  -- what the first seat knows: the joined numbers, that a number which was not given out is new and has no entry, that a given number which no seat has was joined, and how many seats are there beside itself
   pub record FitsFirst (live id : ℕ) (k : Known E) : Type 0 where
     pub is_first_view : id ≡ 0
     pub joined : All (IsJoined k.given) k.joined
     pub new : (n : ℕ) → is_one_of k.given n ≡ false → (seat_of n ≡ None) × (entries_of owner n log ≡ [])
+    pub all_known : (n : ℕ) → is_one_of k.given n ≡ true → seat_of n ≡ None → is_one_of (map (λ p. p.0) k.joined) n ≡ true
     pub counts : live ≡ k.unjoined + 1
 
   -- what a seat that is there knows: the history begins with what it has seen, and has just those entries of its number that it left, all of which it has seen. No other seat has its number. Where it is in the turn it has word 1, it is the holder, and it has seen the whole history.
@@ -60,5 +61,7 @@ module _ {B M E J : Type 0} (owner : E → Option ℕ) (history : B → List E) 
     pub taken : slice_index s.words 1 ≢ 0 → (get_elem? s.homes 0 ≡ some none) × ((v : View M E) × Sits s.views holder v × (v.knows.in_turn ≡ true))
     -- some seat has seen the whole history
     pub longest : (id : ℕ) × (v : View M E) × Sits s.views id v × (v.knows.seen ≡ log)
-    -- what each seat knows fits it
+    -- a number that a seat has is that of a seat which is there
+    pub sat : (n id : ℕ) → seat_of n ≡ Some id → (v : View M E) × Sits s.views id v × (v.knows.number ≡ n)
+    -- what each seat knows fits the history
     pub fits : (id : ℕ) (v : View M E) → Sits s.views id v → Fits owner log seat_of start holder (slice_index s.words 1) (live_count s.views) id v

@@ -1,7 +1,7 @@
 //! The cell, and the calls on it.
 ghost use Rattle.std.specs.Prelude.{◌≡◌, ℕ, ◌⊎◌, true, false, List, [], ◌∷◌, ◌++◌, box_value, option_map, Option, Some, None, Ok, IfOk, All};
 ghost use Rattle.turn_cell.specs.History.{replay, entries_of, BeginsWith};
-ghost use Rattle.turn_cell.specs.Knowledge.{is_one_of, newly_made, entered, outside, with_entry, splitting, split_off, joining};
+ghost use Rattle.turn_cell.specs.Knowledge.{is_one_of, newly_made, entered, outside, with_entry, splitting, split_off, joining, entries_left};
 
 use crate::knowledge::View;
 use crate::machine::Machine;
@@ -210,6 +210,7 @@ impl<M: Machine> TurnCell<M> {
         requires all_joined { seat.knows.unjoined ≡ 0 }
         ensures job { option_map M.job self.start ≡ Some (M.job (box_value result)) }
         ensures history { M.history (box_value result) ≡ seat.knows.seen }
+        ensures every_number { (n : ℕ) → entries_of M.owner n (M.history (box_value result)) ≡ entries_left seat.knows n }
         ensures own { entries_of M.owner seat.knows.number (M.history (box_value result)) ≡ seat.knows.own_entries }
         ensures joined { All (λ p. entries_of M.owner p.0 (M.history (box_value result)) ≡ p.1) seat.knows.joined }
         ensures not_given { (n : ℕ) → is_one_of seat.knows.given n ≡ false → entries_of M.owner n (M.history (box_value result)) ≡ [] }

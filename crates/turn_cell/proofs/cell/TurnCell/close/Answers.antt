@@ -38,6 +38,9 @@ returns-clause-job g c = ap (option_map g.M.Machine.job) (sym (same_start c.self
 pub returns-clause-history : goal.returns-clause-history
 returns-clause-history g c = (returned g c (found g (goal.at.returns-clause-history g c).After-free)).whole
 
+pub returns-clause-every_number : goal.returns-clause-every_number
+returns-clause-every_number g c = (returned g c (found g (goal.at.returns-clause-every_number g c).After-free)).every_number
+
 pub returns-clause-own : goal.returns-clause-own
 returns-clause-own g c = (returned g c (found g (goal.at.returns-clause-own g c).After-free)).own
 
