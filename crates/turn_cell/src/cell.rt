@@ -128,8 +128,15 @@ impl<M: Machine> TurnCell<M> {
         ensures begins { BeginsWith (M.history (box_value result)) seat.old.knows.seen }
         ensures entries { entries_of M.owner seat.old.knows.number (M.history (box_value result)) ≡ seat.old.knows.own_entries }
 
-        ensures own { let j = M.job (box_value result) in M.own (replay (M.after j) (M.opening j) (M.history (box_value result))) seat.old.knows.number ≡ M.own (replay (M.after j) (M.opening j) seat.old.knows.seen) seat.old.knows.number }
-        ensures none_left { let j = M.job (box_value result) in seat.old.knows.own_entries ≡ [] → M.own (replay (M.after j) (M.opening j) (M.history (box_value result))) seat.old.knows.number ≡ M.own (M.opening j) seat.old.knows.number }
+        ensures own { let j = M.job (box_value result) in
+            let state = replay (M.after j) (M.opening j) in
+            M.own (state (M.history (box_value result))) seat.old.knows.number
+            ≡ M.own (state seat.old.knows.seen) seat.old.knows.number }
+        ensures none_left { let j = M.job (box_value result) in
+            let state = replay (M.after j) (M.opening j) in
+            seat.old.knows.own_entries ≡ []
+            → M.own (state (M.history (box_value result))) seat.old.knows.number
+            ≡ M.own (M.opening j) seat.old.knows.number }
     {
         let shared = &self.table.shared;
         for _ in rt.forever() {
@@ -152,7 +159,9 @@ impl<M: Machine> TurnCell<M> {
         requires owner { (M.owner entry ≡ None) ⊎ (M.owner entry ≡ Some seat.old.knows.number) }
         ensures cell { seat.new.cell ≡ seat.old.cell }
         ensures seat { seat.new.knows ≡ outside (with_entry M.owner seat.old.knows entry) }
-        ensures state { (j : M.Job) → replay (M.after j) (M.opening j) seat.new.knows.seen ≡ M.after j (replay (M.after j) (M.opening j) seat.old.knows.seen) entry }
+        ensures state { (j : M.Job)
+            → replay (M.after j) (M.opening j) seat.new.knows.seen
+            ≡ M.after j (replay (M.after j) (M.opening j) seat.old.knows.seen) entry }
     {
         let shared = &self.table.shared;
         let _ = entry;
@@ -171,9 +180,12 @@ impl<M: Machine> TurnCell<M> {
         ensures cell { seat.new.cell ≡ seat.old.cell }
         ensures seat { seat.new.knows ≡ outside seat.old.knows }
     {
-        let shared = &self.table.shared;
-        drop(shared.exchange(&mut seat.inner, 0, Some(machine)));
-        shared.store::<Give>(&mut seat.inner, 1, 0);
+        drop(
+            self.table
+                .shared
+                .exchange(&mut seat.inner, 0, Some(machine)),
+        );
+        self.table.shared.store::<Give>(&mut seat.inner, 1, 0);
     }
 
     /// Waits where the history is no longer than what the seat has seen, until some thread wakes those that wait. It may also return at once, and may never return: nothing is promised of the history on its return.
