@@ -1,5 +1,5 @@
 -- What the closed table has, where the first seat has joined all others.
-use Rattle.std.proofs.Common.{◌≡◌, ◌≢◌, ℕ, zero, suc, ◌+◌, ◌||◌, Bool, true, false, cond, eqb, eq-eqb, ne_eqb, map, List, [], ◌∷◌, length, get_or, refl, sym, ◌∙◌, ap, subst, arith, All, Option, Some, None}
+use Rattle.std.proofs.Common.{◌≡◌, ◌≢◌, ℕ, suc, ◌||◌, Bool, true, false, cond, eqb, eq-eqb, ne_eqb, map, List, [], ◌∷◌, get_or, refl, sym, ◌∙◌, ap, subst, arith, All, Option, Some, None}
 use Rattle.std.proofs.lemmas.Bool.{eqb-true}
 use mathlib.Core.Option.{some, some-injective}
 use mathlib.Core.Logic.{dite}

@@ -1,6 +1,5 @@
 -- What follows of two seats or two cells that are equal, as contracts see them.
 use Rattle.std.proofs.Common.{◌≡◌, ap}
-use Rattle.atomic_table.specs.Seated.{TableId}
 use Rattle.turn_cell.specs.Seats.{Cell, Sitting}
 use Rattle.turn_cell.specs.declared.knowledge.Known.{Known}
 

@@ -1,18 +1,17 @@
 -- The steps by which a seat is split off the first one, and by which another seat is joined with it.
-use Rattle.std.proofs.Common.{◌≡◌, ◌≢◌, ℕ, zero, suc, ◌+◌, ◌-◌, ◌<◌, ◌≤◌, ◌⊎◌, ◌||◌, Bool, true, false, cond, eqb, eq-eqb, ne_eqb, List, [], ◌∷◌, ◌++◌, length, map, get_or, set, refl, sym, ◌∙◌, ap, subst, inl, inr, ⊎_elim, arith, Option, Some, None}
+use Rattle.std.proofs.Common.{◌≡◌, ◌≢◌, ℕ, ◌+◌, ◌||◌, Bool, true, false, cond, eqb, eq-eqb, ne_eqb, List, [], ◌∷◌, ◌++◌, length, map, get_or, set, refl, sym, ◌∙◌, ap, subst, arith, Option, Some, None}
 use Rattle.std.proofs.lemmas.Bool.{eqb-true}
 use Rattle.std.proofs.lemmas.List.Elements.{All-cons}
-use mathlib.Core.Option.{some, none, some-injective, some-ne-none}
+use mathlib.Core.Option.{some}
 use mathlib.Core.Logic.{dite}
 use native.Mathlib.Decide.{ℕ_discrete}
 use lib.ListN.{get_elem?}
 use Rattle.atomic_table.specs.Table.{State, Splits, Joins}
 use Rattle.atomic_table.proofs.Lists.{set_else, at_last}
-use Rattle.turn_cell.specs.History.{entries_of, BeginsWith, longer}
-use Rattle.turn_cell.specs.Knowledge.{is_one_of, splitting, split_off, joining}
+use Rattle.turn_cell.specs.History.{entries_of}
+use Rattle.turn_cell.specs.Knowledge.{is_one_of}
 use Rattle.turn_cell.specs.Rule.{live_count, Sits, IsJoined, FitsFirst, Fits, InTurns}
 use Rattle.turn_cell.specs.Steps.{splitting_view, split_view, joining_view, spent_view}
-use Rattle.turn_cell.specs.declared.knowledge.Known.{Known}
 use Rattle.turn_cell.specs.declared.knowledge.View.{View}
 use Rattle.turn_cell.proofs.Entries.{is_one_of-cons, entries_of-begins, entries_of-longer, begins-longer, longer-first, longer-second}
 use Rattle.turn_cell.proofs.Views.{at_changed, sat_after_set, sits_set, sits_push, same_view, live_count-same, live_count-more, live_count-gone, only_one, each_after_set, each_after_push}

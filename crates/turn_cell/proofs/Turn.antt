@@ -1,15 +1,15 @@
 -- The rule at the beginning, and the steps by which the turn is taken, an entry is counted and the turn is given back.
-use Rattle.std.proofs.Common.{◌≡◌, ◌≢◌, ℕ, zero, suc, ◌+◌, ◌%◌, ◌^◌, ◌<◌, ◌≤◌, ◌⊎◌, ◌||◌, Bool, true, false, cond, eqb, eq-eqb, List, [], ◌∷◌, ◌++◌, length, get_or, set, refl, sym, ◌∙◌, ap, subst, inl, inr, ⊎_elim, arith, length-set, length-append, option_map, Option, Some, None}
+use Rattle.std.proofs.Common.{◌≡◌, ◌≢◌, ℕ, ◌+◌, ◌%◌, ◌^◌, ◌<◌, ◌⊎◌, ◌||◌, Bool, true, false, cond, eqb, eq-eqb, List, [], ◌∷◌, ◌++◌, length, get_or, set, refl, sym, ◌∙◌, ap, subst, ⊎_elim, arith, length-set, length-append, option_map, Option, Some, None}
 use Rattle.std.proofs.lemmas.Bool.{eqb-true}
 use Rattle.std.proofs.lemmas.List.{get_or-set_same, get_or-set_other, set-get_or, append_cancel_left}
-use mathlib.Core.Option.{some, none, some-injective, some-ne-none}
+use mathlib.Core.Option.{some, none, some-ne-none}
 use lib.ListN.{get_elem?}
 use prog.Atomic.{either}
 use Rattle.atomic_table.specs.Table.{State, Me, Step, step, Act, rest, keeps, takes, gives, stepped, Allows, Valid, carried_after, opening}
 use Rattle.atomic_table.proofs.Lists.{set_here, set_again, exchanged}
 use Rattle.turn_cell.specs.History.{entries_of, BeginsWith}
-use Rattle.turn_cell.specs.Knowledge.{is_one_of, entered, outside, with_entry, newly_made}
-use Rattle.turn_cell.specs.Rule.{live_count, Sits, IsJoined, FitsFirst, Fits, InTurns}
+use Rattle.turn_cell.specs.Knowledge.{is_one_of, entered, outside, with_entry}
+use Rattle.turn_cell.specs.Rule.{live_count, Sits, FitsFirst, Fits, InTurns}
 use Rattle.turn_cell.specs.Steps.{first_view, HandsOut, Takes, Counts, Gives}
 use Rattle.turn_cell.specs.declared.knowledge.Known.{Known}
 use Rattle.turn_cell.specs.declared.knowledge.View.{View}

@@ -1,7 +1,7 @@
 -- The rule that every atomic step keeps.
 -- The table has two words and one slot. Word 0 is the length of the history. Word 1 is 0 where the turn is free and 1 where a seat has it. While the turn is free, the machine is at home in the slot.
 -- The rule speaks of lists of entries. It holds no state of a machine.
-use Rattle.std.specs.Prelude.{◌≡◌, ◌≢◌, ℕ, ◌+◌, Bool, true, false, List, [], ◌∷◌, length, map, count_by, slice_index, All, Option, Some, None}
+use Rattle.std.specs.Prelude.{◌≡◌, ◌≢◌, ℕ, ◌+◌, true, false, List, [], length, map, count_by, slice_index, All, Option, Some, None}
 use mathlib.Core.Option.{some, none}
 use lib.ListN.{get_elem?}
 use Rattle.atomic_table.specs.Table.{State}

@@ -1,5 +1,5 @@
 -- Cells and seats, as contracts see them.
-use Rattle.std.specs.Prelude.{◌≡◌, ℕ, Bool, true, false, List, [], ◌∷◌, Option, Some, None, refl}
+use Rattle.std.specs.Prelude.{ℕ, Bool, true, false, List, [], ◌∷◌, Option, None, refl}
 use Rattle.atomic_table.specs.Seated.{TableId, table_id_coded}
 use Rattle.std.specs.Coded.{Coded, code_by, coded×, coded_ℕ, coded_bool, coded_list, coded_option}
 use Rattle.turn_cell.specs.declared.knowledge.Known.{Known}

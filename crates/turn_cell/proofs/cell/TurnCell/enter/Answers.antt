@@ -1,4 +1,4 @@
-use Rattle.std.proofs.Common.{◌≡◌, ◌∙◌, sym, ap, arith, box_value, Some}
+use Rattle.std.proofs.Common.{◌∙◌, sym, ap, arith, box_value, Some}
 use Rattle.turn_cell.specs.Seats.{emptied_slots}
 use Rattle.turn_cell.proofs.Models.{same_table, same_cell, same_knows, same_in_turn}
 use Rattle.turn_cell.proofs.Turn.{may_take, held_first, taken_out}

@@ -1,4 +1,4 @@
-use Rattle.std.proofs.Common.{◌≡◌, ◌∙◌, sym, ap, arith, [], ◌∷◌, box_value, option_map, Some, None}
+use Rattle.std.proofs.Common.{◌∙◌, sym, ap, arith, ◌∷◌, box_value, option_map, Some}
 use Rattle.atomic_table.specs.Table.{rest}
 use Rattle.turn_cell.specs.Seats.{emptied_slots}
 use Rattle.turn_cell.proofs.Models.{same_table, same_start, same_cell, same_knows, same_in_turn, same_seen}

@@ -1,4 +1,4 @@
-use Rattle.std.proofs.Common.{◌≡◌, ◌∙◌, sym, ap, List, [], ◌∷◌, ◌++◌, box_value, Some}
+use Rattle.std.proofs.Common.{◌∙◌, sym, ap, [], ◌∷◌, ◌++◌, box_value, Some}
 use Rattle.turn_cell.proofs.Turn.{begins_with}
 use Rattle.turn_cell.proofs.cell.TurnCell.new.Goals as goal
 
