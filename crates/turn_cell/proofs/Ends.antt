@@ -63,7 +63,7 @@ module _ {B M E J : Type 0} (owner : E → Option ℕ) (history : B → List E) 
       same_job = there.3;
       whole = is_log ∙ sym seen_all;
       own = ap (λ (l : List E). entries_of owner v.knows.number l) is_log ∙ fit.all_own;
-      joined = λ k d h. ap (λ (l : List E). entries_of owner (get_or v.knows.joined k d).0 l) is_log ∙ (first.joined k d h).entries;
+      joined = λ k d h. ap (λ (l : List E). entries_of owner (get_or v.knows.joined k d).0 l) is_log ∙ (first.each_joined k d h).entries;
       not_given = λ n other. ap (λ (l : List E). entries_of owner n l) is_log ∙ (first.new n other).1;
       every_number = λ n. ap (λ (l : List E). entries_of owner n l) is_log ∙ every n (is_one_of v.knows.given n) refl;
     };
@@ -75,7 +75,7 @@ module _ {B M E J : Type 0} (owner : E → Option ℕ) (history : B → List E) 
       fit : Fits owner r.log r.seat_of start r.holder (get_or s.words 1 0) (live_count s.views) id v
       fit = r.fits id v sits
 
-      first : FitsFirst owner r.log r.seat_of (live_count s.views) id v.knows
+      first : FitsFirst owner r.log r.seat_of (live_count s.views) id v.knows.given v.knows.joined v.knows.unjoined
       first = fit.first is_first
 
       alone : (j : ℕ) (u : View M E) → Sits s.views j u → u ≡ v
@@ -106,12 +106,12 @@ module _ {B M E J : Type 0} (owner : E → Option ℕ) (history : B → List E) 
               let same : v.knows.number ≡ n = sym (ap (λ (x : View M E). x.knows.number) (alone i t.0 t.1)) ∙ t.2 in
               ap (λ (m : ℕ). entries_of owner m r.log) (sym same) ∙ fit.all_own ∙ sym (ap (λ (b : Bool). cond b v.knows.own_entries (joined_entries v.knows.joined n)) (eq-eqb v.knows.number n same))
           seated None e =
-              all_of_joined owner r.log v.knows.joined n (λ k d h. (first.joined k d h).entries) (first.all_known n given e)
+              all_of_joined owner r.log v.knows.joined n (λ k d h. (first.each_joined k d h).entries) (first.all_known n given e)
               ∙ sym (ap (λ (b : Bool). cond b v.knows.own_entries (joined_entries v.knows.joined n)) (ne_eqb v.knows.number n (λ same. none_some (sym e ∙ sym (ap r.seat_of same) ∙ fit.seated))))
       every n false other =
           let nothing = first.new n other in
           nothing.1 ∙ sym (ap (λ (b : Bool). cond b v.knows.own_entries (joined_entries v.knows.joined n)) (ne_eqb v.knows.number n (λ same. none_some (sym nothing.0 ∙ sym (ap r.seat_of same) ∙ fit.seated)))
-          ∙ none_of_joined v.knows.given v.knows.joined n (λ k d h. (first.joined k d h).was_given) other)
+          ∙ none_of_joined v.knows.given v.knows.joined n (λ k d h. (first.each_joined k d h).was_given) other)
 
       seen_all : v.knows.seen ≡ r.log
       seen_all = sym (ap (λ (x : View M E). x.knows.seen) (alone r.longest.0 r.longest.1 r.longest.2)) ∙ r.longest.3

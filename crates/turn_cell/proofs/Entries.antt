@@ -62,9 +62,9 @@ module _ {E : Type 0} (owner : E → Option ℕ) where
   entries_of-begins n log xs begins none_there = nil_of_append (entries_of owner n xs) (entries_of owner n begins.0) (sym (entries_of-append n xs begins.0) ∙ sym (ap (λ (l : List E). entries_of owner n l) begins.1) ∙ none_there)
 
 module _ {E : Type 0} where
-  -- a history that grows begins with what it began with
-  pub begins-grown : (log xs ys : List E) → BeginsWith log xs → BeginsWith (log ++ ys) xs
-  begins-grown log xs ys begins = (begins.0 ++ ys, ap (λ (l : List E). l ++ ys) begins.1 ∙ append_assoc xs begins.0 ys)
+  -- a history that goes on from another begins with what that one begins with
+  pub begins-grown : (longer_log log xs : List E) → BeginsWith longer_log log → BeginsWith log xs → BeginsWith longer_log xs
+  begins-grown longer_log log xs (more, e) (between, e') = (between ++ more, e ∙ ap (λ (l : List E). l ++ more) e' ∙ append_assoc xs between more)
 
   pub begins-itself : (log : List E) → BeginsWith log log
   begins-itself log = ([], sym (append-nil log))

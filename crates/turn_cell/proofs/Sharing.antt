@@ -84,7 +84,7 @@ module _ {B M E J : Type 0} (owner : E → Option ℕ) (history : B → List E) 
       fit : Fits owner r.log r.seat_of start r.holder turn (live_count s.views) id v
       fit = r.fits id v sits
 
-      first : FitsFirst owner r.log r.seat_of (live_count s.views) id v.knows
+      first : FitsFirst owner r.log r.seat_of (live_count s.views) id v.knows.given v.knows.joined v.knows.unjoined
       first = fit.first is_first
 
       -- no seat has the number yet, and it has no entry
@@ -148,7 +148,7 @@ module _ {B M E J : Type 0} (owner : E → Option ℕ) (history : B → List E) 
         in_turn = λ inside. absurd (cc);
         first = λ _. record {
           is_first_view = first.is_first_view;
-          joined = λ k d h. let p = first.joined k d h in let q = get_or v.knows.joined k d in record {
+          each_joined = λ k d h. let p = first.each_joined k d h in let q = get_or v.knows.joined k d in record {
             entries = p.entries;
             was_given = one_more (eqb n q.0) (is_one_of v.knows.given q.0) p.was_given;
             unseated = unseated_still q.0 (joined_apart q p) p.unseated;
@@ -219,7 +219,7 @@ module _ {B M E J : Type 0} (owner : E → Option ℕ) (history : B → List E) 
       w_fit : Fits owner r.log r.seat_of start r.holder turn (live_count s.views) gone w
       w_fit = r.fits gone w w_sits
 
-      first : FitsFirst owner r.log r.seat_of (live_count s.views) id v.knows
+      first : FitsFirst owner r.log r.seat_of (live_count s.views) id v.knows.given v.knows.joined v.knows.unjoined
       first = fit.first is_first
 
       seated_still : (m i : ℕ) → i ≢ gone → r.seat_of m ≡ Some i → seat_of m ≡ Some i
@@ -284,13 +284,13 @@ module _ {B M E J : Type 0} (owner : E → Option ℕ) (history : B → List E) 
         in_turn = λ inside. absurd (cc);
         first = λ _. record {
           is_first_view = first.is_first_view;
-          joined = All-cons (IsJoined owner r.log seat_of v.knows.given) (w.knows.number, w.knows.own_entries) v.knows.joined
+          each_joined = All-cons (IsJoined owner r.log seat_of v.knows.given) (w.knows.number, w.knows.own_entries) v.knows.joined
               (record {
                 entries = w_fit.all_own;
                 was_given = w_given (is_one_of v.knows.given w.knows.number) refl;
                 unseated = ap (λ (b : Bool). cond b None (r.seat_of w.knows.number)) (eq-eqb w.knows.number w.knows.number refl);
               })
-              (λ k d h. let p = first.joined k d h in let q = get_or v.knows.joined k d in record { entries = p.entries; was_given = p.was_given; unseated = still_none (eqb w.knows.number q.0) (r.seat_of q.0) p.unseated });
+              (λ k d h. let p = first.each_joined k d h in let q = get_or v.knows.joined k d in record { entries = p.entries; was_given = p.was_given; unseated = still_none (eqb w.knows.number q.0) (r.seat_of q.0) p.unseated });
           new = λ m other. let q = first.new m other in (still_none (eqb w.knows.number m) (r.seat_of m) q.0, q.1);
           all_known = λ m given nobody. known_still m (eqb w.knows.number m) given nobody;
           counts = omega (arith, one_live_less, first.counts, some_unjoined);

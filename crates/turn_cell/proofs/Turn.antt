@@ -2,6 +2,7 @@
 use Rattle.std.proofs.Common.{◌≡◌, ◌≢◌, ℕ, ◌+◌, ◌%◌, ◌^◌, ◌<◌, ◌⊎◌, ◌||◌, Bool, true, false, cond, eqb, eq-eqb, List, [], ◌∷◌, ◌++◌, length, get_or, set, refl, sym, ◌∙◌, ap, subst, ⊎_elim, arith, length-set, length-append, option_map, Option, Some, None}
 use Rattle.std.proofs.lemmas.Bool.{eqb-true}
 use Rattle.std.proofs.lemmas.List.{get_or-set_same, get_or-set_other, set-get_or, append_cancel_left}
+use mathlib.Core.Option as maybe
 use mathlib.Core.Option.{some, none, some-ne-none}
 use lib.ListN.{get_elem?}
 use prog.Atomic.{either}
@@ -99,7 +100,7 @@ module _ {B M E J : Type 0} (owner : E → Option ℕ) (history : B → List E) 
         all_own = refl;
         seated = ap (λ (b : Bool). cond b (Some 0) None) (eq-eqb n n refl);
         in_turn = λ inside. absurd (cc);
-        first = λ _. record { is_first_view = refl; joined = λ k d h. absurd (omega arith); new = new; all_known = λ m given nobody. absurd (given_sat (eqb n m) given nobody); counts = refl };
+        first = λ _. record { is_first_view = refl; each_joined = λ k d h. absurd (omega arith); new = new; all_known = λ m given nobody. absurd (given_sat (eqb n m) given nobody); counts = refl };
       }
 
   pub begins_with : (b : B) (n : ℕ) (slots : List (Option B)) → slots ≡ Some b ∷ [] → history b ≡ [] → job_of b ≡ job start → Rule (opening (0 ∷ 0 ∷ []) slots (first_view start n))
@@ -112,216 +113,150 @@ module _ {B M E J : Type 0} (owner : E → Option ℕ) (history : B → List E) 
       subst Rule (sym same) r
 
   module _ (s : S) (r : Rule s) (id : ℕ) (v : View M E) (sits : Sits s.views id v) where
+    fit : Fits owner r.log r.seat_of start r.holder (get_or s.words 1 0) (live_count s.views) id v
+    fit = r.fits id v sits
+
+    -- a step after which the seat has seen the whole history: it began with the history before, no other number has more entries in it, and no other seat has the turn
+    goes_on : (log own : List E) (holds_turn : Bool) (words : List ℕ) (homes : List (maybe.Option (Option B))) (holder : ℕ) → length words ≡ 2 → get_or words 0 0 ≡ length log
+        → (get_or words 1 0 ≡ 0 → (b : B) × (get_elem? homes 0 ≡ some (some (Some b))) × (history b ≡ log) × (job_of b ≡ job start))
+        → (get_or words 1 0 ≢ 0 → (get_elem? homes 0 ≡ some none) × (holds_turn ≡ true))
+        → (holds_turn ≡ true → (get_or words 1 0 ≡ 1) × (id ≡ holder))
+        → BeginsWith log r.log → ((n : ℕ) → (r.seat_of n ≡ Some id → ⊥) → entries_of owner n log ≡ entries_of owner n r.log)
+        → entries_of owner v.knows.number log ≡ own
+        → ((j : ℕ) (u : View M E) → j ≢ id → Sits s.views j u → u.knows.in_turn ≡ true → ⊥)
+        → Rule (record { words = words; homes = homes; views = set s.views id (record v { knows = record v.knows { seen = log; own_entries = own; in_turn = holds_turn } }) })
+    goes_on log own holds_turn words homes holder two_words length_is free taken in_turn begins same_entries all_own no_other = record {
+      log = log;
+      seat_of = r.seat_of;
+      holder = holder;
+      two_words = two_words;
+      length_is = length_is;
+      free = free;
+      taken = λ held. let t = taken held in (t.0, (w, (subst (λ (i : ℕ). get_elem? (set s.views id w) i ≡ some w) (in_turn t.1).1 at_w, sits.1), t.1));
+      longest = (id, w, (at_w, sits.1), refl);
+      sat = sat_after_set r.seat_of s.views id v w sits sits.1 refl r.sat;
+      fits = each_after_set (λ j u. Fits owner log r.seat_of start holder turn live j u) s.views id w (λ _. mine) others;
+    }
+      where
+        w : View M E
+        w = record v { knows = record v.knows { seen = log; own_entries = own; in_turn = holds_turn } }
+
+        turn : ℕ
+        turn = get_or words 1 0
+
+        live : ℕ
+        live = live_count (set s.views id w)
+
+        at_w : get_elem? (set s.views id w) id ≡ some w
+        at_w = at_changed s.views id v w sits.0
+
+        first_still : (j : ℕ) (given : List ℕ) (joined : List (ℕ × List E)) (unjoined : ℕ) → FitsFirst owner r.log r.seat_of (live_count s.views) j given joined unjoined → FitsFirst owner log r.seat_of live j given joined unjoined
+        first_still j given joined unjoined f = record {
+          is_first_view = f.is_first_view;
+          each_joined = λ i d h. let p = f.each_joined i d h in record { entries = same_entries _ (λ at. none_some (sym p.unseated ∙ at)) ∙ p.entries; was_given = p.was_given; unseated = p.unseated };
+          new = λ n other. let p = f.new n other in (p.0, same_entries n (λ at. none_some (sym p.0 ∙ at)) ∙ p.1);
+          all_known = f.all_known;
+          counts = live_count-same s.views id v w sits sits.1 ∙ f.counts;
+        }
+
+        mine : Fits owner log r.seat_of start holder turn live id w
+        mine = record {
+          started = fit.started;
+          begins = begins-itself log;
+          seen_own = all_own;
+          all_own = all_own;
+          seated = fit.seated;
+          in_turn = λ held. let t = in_turn held in (t.0, t.1, refl);
+          first = λ is_first. first_still id v.knows.given v.knows.joined v.knows.unjoined (fit.first is_first);
+        }
+
+        others : (j : ℕ) (u : View M E) → j ≢ id → Sits s.views j u → Fits owner log r.seat_of start holder turn live j u
+        others j u other there = let f = r.fits j u there in record {
+          started = f.started;
+          begins = begins-grown log r.log u.knows.seen begins f.begins;
+          seen_own = f.seen_own;
+          all_own = same_entries u.knows.number (λ at. other (some_same j id (sym f.seated ∙ at))) ∙ f.all_own;
+          seated = f.seated;
+          in_turn = λ inside. absurd (no_other j u other there inside);
+          first = λ is_first. first_still j u.knows.given u.knows.joined u.knows.unjoined (f.first is_first);
+        }
+
+    -- the history is as it was
+    same_history : (log : List E) → log ≡ r.log → BeginsWith log r.log × ((n : ℕ) → (r.seat_of n ≡ Some id → ⊥) → entries_of owner n log ≡ entries_of owner n r.log)
+    same_history log same = (subst (λ (l : List E). BeginsWith l r.log) (sym same) (begins-itself r.log), (λ n _. ap (λ (l : List E). entries_of owner n l) same))
+
     -- the turn is taken, with the machine that was at home
     takes_free : length s.homes ≡ 1 → (is_free : get_or s.words 1 0 ≡ 0)
         → Rule (stepped s 1 1 id [] (record v { knows = entered v.knows (history (r.free is_free).0) }) (takes 0 (Some (r.free is_free).0)))
-    takes_free one is_free = record {
-      log = r.log;
-      seat_of = r.seat_of;
-      holder = id;
-      two_words = length-set s.words 1 1 ∙ r.two_words;
-      length_is = get_or-set_other s.words 1 0 1 0 (λ h. omega arith) ∙ r.length_is;
-      free = λ zero. absurd (omega (arith, held));
-      taken = λ _. (set_here s.homes 0 none (omega arith), (w, (at_w, sits.1), refl));
-      longest = (id, w, (at_w, sits.1), seen_all);
-      sat = sat_after_set r.seat_of s.views id v w sits sits.1 refl r.sat;
-      fits = each_after_set (λ j u. Fits owner r.log r.seat_of start id turn live j u) s.views id w (λ _. mine) others;
-    }
-      where
-        b : B
-        b = (r.free is_free).0
+    takes_free one is_free =
+        let home = r.free is_free in
+        let whole : history home.0 ≡ r.log = home.2 in
+        let held : get_or (set s.words 1 1) 1 0 ≡ 1 = get_or-set_same s.words 1 1 0 (omega (arith, r.two_words)) in
+        let same = same_history (history home.0) whole in
+        goes_on (history home.0) v.knows.own_entries true (set s.words 1 1) (set s.homes 0 none) id
+        (length-set s.words 1 1 ∙ r.two_words)
+        (get_or-set_other s.words 1 0 1 0 (λ h. omega arith) ∙ r.length_is ∙ sym (ap length whole))
+        (λ is_zero. absurd (omega (arith, held)))
+        (λ _. (set_here s.homes 0 none (omega arith), refl))
+        (λ _. (held, refl))
+        same.0
+        same.1
+        (ap (λ (l : List E). entries_of owner v.knows.number l) whole ∙ fit.all_own)
+        (λ j u other there inside. omega (arith, ((r.fits j u there).in_turn inside).0))
 
-        seen_all : history b ≡ r.log
-        seen_all = (r.free is_free).2
+    module _ (inside : v.knows.in_turn ≡ true) where
+      turn : (get_or s.words 1 0 ≡ 1) × (id ≡ r.holder) × (v.knows.seen ≡ r.log)
+      turn = fit.in_turn inside
 
-        w : View M E
-        w = record v { knows = entered v.knows (history b) }
+      no_other : (j : ℕ) (u : View M E) → j ≢ id → Sits s.views j u → u.knows.in_turn ≡ true → ⊥
+      no_other j u other there u_inside = other (((r.fits j u there).in_turn u_inside).1 ∙ sym turn.1)
 
-        turn : ℕ
-        turn = get_or (set s.words 1 1) 1 0
+      -- an entry is counted
+      counts_entry : (e : E) → (owner e ≡ None) ⊎ (owner e ≡ Some v.knows.number) → (m : ℕ) → m ≡ get_or s.words 0 0 + 1 → (held : List (ℕ × Option B))
+          → Rule (stepped s 0 m id held (record v { knows = with_entry owner v.knows e }) keeps)
+      counts_entry e allowed m one_more held =
+          let turn_same : get_or (set s.words 0 m) 1 0 ≡ get_or s.words 1 0 = get_or-set_other s.words 0 1 m 0 (λ h. omega arith) in
+          subst (λ (b : Bool). Rule (stepped s 0 m id held (record v { knows = record v.knows { seen = log; own_entries = own; in_turn = b } }) keeps)) (sym inside)
+          (goes_on log own true (set s.words 0 m) s.homes r.holder
+          (length-set s.words 0 m ∙ r.two_words)
+          (get_or-set_same s.words 0 m 0 (omega (arith, r.two_words)) ∙ omega (arith, one_more, r.length_is, ap length turn.2, length-append v.knows.seen (e ∷ [])))
+          (λ is_zero. absurd (omega (arith, turn_same, turn.0)))
+          (λ _. ((r.taken (λ is_zero. omega (arith, turn.0))).0, refl))
+          (λ _. (turn_same ∙ turn.0, turn.1))
+          (e ∷ [], grown)
+          (λ n not_here. ap (λ (l : List E). entries_of owner n l) grown ∙ entries_of-other owner n r.log e (elsewhere n not_here))
+          (entries_of-append owner v.knows.number v.knows.seen (e ∷ []) ∙ ap (λ (l : List E). l ++ entries_of owner v.knows.number (e ∷ [])) fit.seen_own)
+          no_other)
+        where
+          log : List E
+          log = v.knows.seen ++ e ∷ []
 
-        held : turn ≡ 1
-        held = get_or-set_same s.words 1 1 0 (omega (arith, r.two_words))
+          own : List E
+          own = v.knows.own_entries ++ entries_of owner v.knows.number (e ∷ [])
 
-        live : ℕ
-        live = live_count (set s.views id w)
+          grown : log ≡ r.log ++ e ∷ []
+          grown = ap (λ (l : List E). l ++ e ∷ []) turn.2
 
-        same_live : live ≡ live_count s.views
-        same_live = live_count-same s.views id v w sits sits.1
+          -- the entry belongs to no number that another seat has, or none
+          elsewhere : (n : ℕ) → (r.seat_of n ≡ Some id → ⊥) → owner e ≢ Some n
+          elsewhere n not_here e_n = ⊎_elim (λ (none_owner : owner e ≡ None). cc) (λ (mine : owner e ≡ Some v.knows.number). not_here (subst (λ (k : ℕ). r.seat_of k ≡ Some id) (some_same v.knows.number n (sym mine ∙ e_n)) fit.seated)) allowed
 
-        at_w : get_elem? (set s.views id w) id ≡ some w
-        at_w = at_changed s.views id v w sits.0
-
-        fit : Fits owner r.log r.seat_of start r.holder (get_or s.words 1 0) (live_count s.views) id v
-        fit = r.fits id v sits
-
-        mine : Fits owner r.log r.seat_of start id turn live id w
-        mine = record {
-          started = fit.started;
-          begins = subst (λ (l : List E). BeginsWith r.log l) (sym seen_all) (begins-itself r.log);
-          seen_own = ap (λ (l : List E). entries_of owner v.knows.number l) seen_all ∙ fit.all_own;
-          all_own = fit.all_own;
-          seated = fit.seated;
-          in_turn = λ _. (held, refl, seen_all);
-          first = λ is_first. let f = fit.first is_first in record { is_first_view = f.is_first_view; joined = f.joined; new = f.new; all_known = f.all_known; counts = same_live ∙ f.counts };
-        }
-
-        others : (j : ℕ) (u : View M E) → j ≢ id → Sits s.views j u → Fits owner r.log r.seat_of start id turn live j u
-        others j u other there = let f = r.fits j u there in record {
-          started = f.started;
-          begins = f.begins;
-          seen_own = f.seen_own;
-          all_own = f.all_own;
-          seated = f.seated;
-          in_turn = λ inside. absurd (omega (arith, (f.in_turn inside).0));
-          first = λ is_first. let g = f.first is_first in record { is_first_view = g.is_first_view; joined = g.joined; new = g.new; all_known = g.all_known; counts = same_live ∙ g.counts };
-        }
-
-    -- an entry is counted, while the seat has the turn
-    counts_entry : (e : E) → v.knows.in_turn ≡ true → (owner e ≡ None) ⊎ (owner e ≡ Some v.knows.number) → (m : ℕ) → m ≡ get_or s.words 0 0 + 1 → (held : List (ℕ × Option B))
-        → Rule (stepped s 0 m id held (record v { knows = with_entry owner v.knows e }) keeps)
-    counts_entry e inside allowed m one_more held = record {
-      log = r.log ++ e ∷ [];
-      seat_of = r.seat_of;
-      holder = r.holder;
-      two_words = length-set s.words 0 m ∙ r.two_words;
-      length_is = get_or-set_same s.words 0 m 0 (omega (arith, r.two_words)) ∙ omega (arith, one_more, r.length_is, length-append r.log (e ∷ []));
-      free = λ zero. absurd (omega (arith, turn_same, turn.0));
-      taken = λ _. ((r.taken (λ zero. omega (arith, turn.0))).0, (w, (subst (λ (i : ℕ). get_elem? (set s.views id w) i ≡ some w) turn.1 at_w, sits.1), inside));
-      longest = (id, w, (at_w, sits.1), seen_all);
-      sat = sat_after_set r.seat_of s.views id v w sits sits.1 refl r.sat;
-      fits = each_after_set (λ j u. Fits owner log r.seat_of start r.holder word live j u) s.views id w (λ _. mine) others;
-    }
-      where
-        log : List E
-        log = r.log ++ e ∷ []
-
-        fit : Fits owner r.log r.seat_of start r.holder (get_or s.words 1 0) (live_count s.views) id v
-        fit = r.fits id v sits
-
-        turn : (get_or s.words 1 0 ≡ 1) × (id ≡ r.holder) × (v.knows.seen ≡ r.log)
-        turn = fit.in_turn inside
-
-        word : ℕ
-        word = get_or (set s.words 0 m) 1 0
-
-        turn_same : word ≡ get_or s.words 1 0
-        turn_same = get_or-set_other s.words 0 1 m 0 (λ h. omega arith)
-
-        w : View M E
-        w = record v { knows = with_entry owner v.knows e }
-
-        at_w : get_elem? (set s.views id w) id ≡ some w
-        at_w = at_changed s.views id v w sits.0
-
-        live : ℕ
-        live = live_count (set s.views id w)
-
-        same_live : live ≡ live_count s.views
-        same_live = live_count-same s.views id v w sits sits.1
-
-        seen_all : v.knows.seen ++ e ∷ [] ≡ log
-        seen_all = ap (λ (l : List E). l ++ e ∷ []) turn.2
-
-        -- the entry belongs to no number that another seat has, or none
-        elsewhere : (n : ℕ) → (r.seat_of n ≡ Some id → ⊥) → owner e ≢ Some n
-        elsewhere n not_here e_n = ⊎_elim (λ (none_owner : owner e ≡ None). cc) (λ (own : owner e ≡ Some v.knows.number). not_here (subst (λ (k : ℕ). r.seat_of k ≡ Some id) (some_same v.knows.number n (sym own ∙ e_n)) fit.seated)) allowed
-
-        grown : (n : ℕ) → (r.seat_of n ≡ Some id → ⊥) → entries_of owner n log ≡ entries_of owner n r.log
-        grown n not_here = entries_of-other owner n r.log e (elsewhere n not_here)
-
-        first_grown : (j : ℕ) (k : Known E) → FitsFirst owner r.log r.seat_of (live_count s.views) j k → FitsFirst owner log r.seat_of live j k
-        first_grown j k f = record {
-          is_first_view = f.is_first_view;
-          joined = λ i d h. let p = f.joined i d h in record { entries = grown _ (λ at. none_some (sym p.unseated ∙ at)) ∙ p.entries; was_given = p.was_given; unseated = p.unseated };
-          new = λ n other. let p = f.new n other in (p.0, grown n (λ at. none_some (sym p.0 ∙ at)) ∙ p.1);
-          all_known = f.all_known;
-          counts = same_live ∙ f.counts;
-        }
-
-        mine : Fits owner log r.seat_of start r.holder word live id w
-        mine = record {
-          started = fit.started;
-          begins = subst (λ (l : List E). BeginsWith log l) (sym seen_all) (begins-itself log);
-          seen_own = entries_of-append owner v.knows.number v.knows.seen (e ∷ []) ∙ ap (λ (l : List E). l ++ entries_of owner v.knows.number (e ∷ [])) fit.seen_own;
-          all_own = entries_of-append owner v.knows.number r.log (e ∷ []) ∙ ap (λ (l : List E). l ++ entries_of owner v.knows.number (e ∷ [])) fit.all_own;
-          seated = fit.seated;
-          in_turn = λ _. (turn_same ∙ turn.0, turn.1, seen_all);
-          first = λ is_first. let g = first_grown id v.knows (fit.first is_first) in record { is_first_view = g.is_first_view; joined = g.joined; new = g.new; all_known = g.all_known; counts = g.counts };
-        }
-
-        others : (j : ℕ) (u : View M E) → j ≢ id → Sits s.views j u → Fits owner log r.seat_of start r.holder word live j u
-        others j u other there = let f = r.fits j u there in record {
-          started = f.started;
-          begins = begins-grown r.log u.knows.seen (e ∷ []) f.begins;
-          seen_own = f.seen_own;
-          all_own = grown u.knows.number (λ at. other (some_same j id (sym f.seated ∙ at))) ∙ f.all_own;
-          seated = f.seated;
-          in_turn = λ u_inside. absurd (other ((f.in_turn u_inside).1 ∙ sym turn.1));
-          first = λ is_first. first_grown j u.knows (f.first is_first);
-        }
-
-    -- the turn is given back, with a machine of the same job that has the history which the seat has seen
-    gives_back : (b : B) → length s.homes ≡ 1 → v.knows.in_turn ≡ true → history b ≡ v.knows.seen → job_of b ≡ job start
-        → Rule (stepped s 1 0 id ((0, Some b) ∷ []) (record v { knows = outside v.knows }) gives)
-    gives_back b one inside same_history same_job = record {
-      log = r.log;
-      seat_of = r.seat_of;
-      holder = r.holder;
-      two_words = length-set s.words 1 0 ∙ r.two_words;
-      length_is = get_or-set_other s.words 1 0 0 0 (λ h. omega arith) ∙ r.length_is;
-      free = λ _. (b, set_here s.homes 0 (some (Some b)) (omega arith), same_history ∙ turn.2, same_job);
-      taken = λ held. absurd (held is_free);
-      longest = (id, w, (at_w, sits.1), turn.2);
-      sat = sat_after_set r.seat_of s.views id v w sits sits.1 refl r.sat;
-      fits = each_after_set (λ j u. Fits owner r.log r.seat_of start r.holder word live j u) s.views id w (λ _. mine) others;
-    }
-      where
-        fit : Fits owner r.log r.seat_of start r.holder (get_or s.words 1 0) (live_count s.views) id v
-        fit = r.fits id v sits
-
-        turn : (get_or s.words 1 0 ≡ 1) × (id ≡ r.holder) × (v.knows.seen ≡ r.log)
-        turn = fit.in_turn inside
-
-        word : ℕ
-        word = get_or (set s.words 1 0) 1 0
-
-        is_free : word ≡ 0
-        is_free = get_or-set_same s.words 1 0 0 (omega (arith, r.two_words))
-
-        w : View M E
-        w = record v { knows = outside v.knows }
-
-        at_w : get_elem? (set s.views id w) id ≡ some w
-        at_w = at_changed s.views id v w sits.0
-
-        live : ℕ
-        live = live_count (set s.views id w)
-
-        same_live : live ≡ live_count s.views
-        same_live = live_count-same s.views id v w sits sits.1
-
-        mine : Fits owner r.log r.seat_of start r.holder word live id w
-        mine = record {
-          started = fit.started;
-          begins = fit.begins;
-          seen_own = fit.seen_own;
-          all_own = fit.all_own;
-          seated = fit.seated;
-          in_turn = λ held. absurd (cc);
-          first = λ is_first. let f = fit.first is_first in record { is_first_view = f.is_first_view; joined = f.joined; new = f.new; all_known = f.all_known; counts = same_live ∙ f.counts };
-        }
-
-        others : (j : ℕ) (u : View M E) → j ≢ id → Sits s.views j u → Fits owner r.log r.seat_of start r.holder word live j u
-        others j u other there = let f = r.fits j u there in record {
-          started = f.started;
-          begins = f.begins;
-          seen_own = f.seen_own;
-          all_own = f.all_own;
-          seated = f.seated;
-          in_turn = λ u_inside. absurd (other ((f.in_turn u_inside).1 ∙ sym turn.1));
-          first = λ is_first. let g = f.first is_first in record { is_first_view = g.is_first_view; joined = g.joined; new = g.new; all_known = g.all_known; counts = same_live ∙ g.counts };
-        }
+      -- the turn is given back, with a machine of the same job that has the history which the seat has seen
+      gives_back : (b : B) → length s.homes ≡ 1 → history b ≡ v.knows.seen → job_of b ≡ job start
+          → Rule (stepped s 1 0 id ((0, Some b) ∷ []) (record v { knows = outside v.knows }) gives)
+      gives_back b one whole same_job =
+          let is_free : get_or (set s.words 1 0) 1 0 ≡ 0 = get_or-set_same s.words 1 0 0 (omega (arith, r.two_words)) in
+          let same = same_history v.knows.seen turn.2 in
+          goes_on v.knows.seen v.knows.own_entries false (set s.words 1 0) (set s.homes 0 (some (Some b))) r.holder
+          (length-set s.words 1 0 ∙ r.two_words)
+          (get_or-set_other s.words 1 0 0 0 (λ h. omega arith) ∙ r.length_is ∙ sym (ap length turn.2))
+          (λ _. (b, set_here s.homes 0 (some (Some b)) (omega arith), whole, same_job))
+          (λ held. absurd (held is_free))
+          (λ held. absurd (cc))
+          same.0
+          same.1
+          fit.seen_own
+          no_other
 
   -- counting and giving back tell the same of every step
   abbrev any_step : Step (Option B)
@@ -385,7 +320,7 @@ module _ {B M E J : Type 0} (owner : E → Option ℕ) (history : B → List E) 
     record v { knows = with_entry owner v.knows e },
     keeps,
     tt,
-    counts_entry s r id v (at, live) e inside allowed ((get_or s.words 0 0 + 1) % 2 ^ 64) no_wrap me.1,
+    counts_entry s r id v (at, live) inside e allowed ((get_or s.words 0 0 + 1) % 2 ^ 64) no_wrap me.1,
     λ b' e' held' ahead'. (refl, ap (λ (x : E). record v { knows = with_entry owner v.knows x }) (same_entry b' e' held' ahead')),
   )
     where
@@ -416,6 +351,6 @@ module _ {B M E J : Type 0} (owner : E → Option ℕ) (history : B → List E) 
         record v { knows = outside v.knows },
         gives,
         tt,
-        gives_back s r id v (at, live) b (homes ∙ one_slot) inside same_history (same_job start (r.fits id v (at, live)).started),
+        gives_back s r id v (at, live) inside b (homes ∙ one_slot) same_history (same_job start (r.fits id v (at, live)).started),
         (refl, refl),
       )
