@@ -11,10 +11,8 @@ use Rattle.turn_cell.specs.Knowledge.{is_one_of, joined_entries, entries_left}
 use Rattle.turn_cell.specs.Rule.{live_count, Sits, FitsFirst, Fits, InTurns}
 use Rattle.turn_cell.specs.declared.knowledge.Known.{Known}
 use Rattle.turn_cell.specs.declared.knowledge.View.{View}
+use Rattle.turn_cell.proofs.Entries.{some_same, none_some}
 use Rattle.turn_cell.proofs.Views.{same_view, only_one}
-
-none_some : {n : ℕ} → None ≡ Some n → ⊥
-none_some e = cc
 
 -- what a number that was not given out has left: nothing
 none_of_joined : {E : Type 0} (given : List ℕ) (joined : List (ℕ × List E)) (n : ℕ) → All (λ p. is_one_of given p.0 ≡ true) joined → is_one_of given n ≡ false → joined_entries joined n ≡ []
@@ -119,7 +117,4 @@ module _ {B M E J : Type 0} (owner : E → Option ℕ) (history : B → List E) 
   -- the same of the machine in hand, as the contract names what the seat knows
   pub ending_of : (k known : Known E) (r : B) (found : Option B) → known ≡ k → found ≡ Some r → Found known found → Ending k r
   ending_of k known r found same_knows is_r f =
-      subst (λ (x : B). Ending k x) (same_machine (sym f.is ∙ is_r)) (subst (λ (x : Known E). Ending x f.machine) same_knows f.ending)
-    where
-      same_machine : {x y : B} → Some x ≡ Some y → x ≡ y
-      same_machine h = cc
+      subst (λ (x : B). Ending k x) (some_same (sym f.is ∙ is_r)) (subst (λ (x : Known E). Ending x f.machine) same_knows f.ending)

@@ -1,10 +1,17 @@
 -- The entries of a number, where an entry is added, and where a list begins with another.
-use Rattle.std.proofs.Common.{◌≡◌, ◌≢◌, ℕ, ◌<◌, ◌≤◌, Bool, true, false, cond, eqb, List, [], ◌∷◌, ◌++◌, length, nat_lt, refl, sym, ◌∙◌, ap, arith, Option, Some, length-append, append_assoc, ◌||◌}
+use Rattle.std.proofs.Common.{◌≡◌, ◌≢◌, ℕ, ◌<◌, ◌≤◌, Bool, true, false, cond, eqb, List, [], ◌∷◌, ◌++◌, length, nat_lt, refl, sym, ◌∙◌, ap, arith, Option, Some, None, length-append, append_assoc, ◌||◌}
 use Rattle.std.proofs.lemmas.Bool.{ltb-true, ltb-false}
 use Rattle.std.proofs.lemmas.List.{append-nil, append_cancel_left}
 use Rattle.std.proofs.lemmas.List.Elements.{filter-append}
 use Rattle.turn_cell.specs.Knowledge.{is_one_of}
 use Rattle.turn_cell.specs.History.{belongs_to, belongs_to-other, entries_of, BeginsWith, longer}
+
+-- the values of two options
+pub some_same : {X : Type 0} {x y : X} → Some x ≡ Some y → x ≡ y
+some_same e = cc
+
+pub none_some : {X : Type 0} {x : X} → None ≡ Some x → ⊥
+none_some e = cc
 
 -- a number that is none of these is neither the first nor one of the rest
 pub is_one_of-cons : (n : ℕ) (numbers : List ℕ) (m : ℕ) → is_one_of (n ∷ numbers) m ≡ false → (eqb n m ≡ false) × (is_one_of numbers m ≡ false)

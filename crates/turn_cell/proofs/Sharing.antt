@@ -13,14 +13,8 @@ use Rattle.turn_cell.specs.Knowledge.{is_one_of}
 use Rattle.turn_cell.specs.Rule.{live_count, Sits, IsJoined, FitsFirst, Fits, InTurns}
 use Rattle.turn_cell.specs.Steps.{splitting_view, split_view, joining_view, spent_view}
 use Rattle.turn_cell.specs.declared.knowledge.View.{View}
-use Rattle.turn_cell.proofs.Entries.{is_one_of-cons, entries_of-begins, entries_of-longer, begins-longer, longer-first, longer-second}
+use Rattle.turn_cell.proofs.Entries.{some_same, none_some, is_one_of-cons, entries_of-begins, entries_of-longer, begins-longer, longer-first, longer-second}
 use Rattle.turn_cell.proofs.Views.{at_changed, sat_after_set, sits_set, sits_push, same_view, live_count-same, live_count-more, live_count-gone, only_one, each_after_set, each_after_push}
-
-some_same : (m n : ℕ) → Some m ≡ Some n → m ≡ n
-some_same m n e = cc
-
-none_some : {n : ℕ} → None ≡ Some n → ⊥
-none_some e = cc
 
 -- what has no seat has none after a seat is gone
 still_none : (b : Bool) (found : Option ℕ) → found ≡ None → cond b None found ≡ None
@@ -121,7 +115,7 @@ module _ {B M E J : Type 0} (owner : E → Option ℕ) (history : B → List E) 
       known_still m false given nobody = first.all_known m given nobody
 
       sat : (m i : ℕ) (b : Bool) → eqb n m ≡ b → cond b (Some place) (r.seat_of m) ≡ Some i → (u : View M E) × Sits (changed ++ new ∷ []) i u × (u.knows.number ≡ m)
-      sat m i true same e = (new, (subst (λ (k : ℕ). get_elem? (changed ++ new ∷ []) k ≡ some new) (some_same place i e) (at_last changed new place refl), refl), eqb-true n m same)
+      sat m i true same e = (new, (subst (λ (k : ℕ). get_elem? (changed ++ new ∷ []) k ≡ some new) (some_same e) (at_last changed new place refl), refl), eqb-true n m same)
       sat m i false other e = let t = sat_after_set r.seat_of s.views id v left sits live refl r.sat m i e in (t.0, sits_push changed i new t.0 t.1, t.2)
 
       of_new : P place new
@@ -223,7 +217,7 @@ module _ {B M E J : Type 0} (owner : E → Option ℕ) (history : B → List E) 
       first = fit.first is_first
 
       seated_still : (m i : ℕ) → i ≢ gone → r.seat_of m ≡ Some i → seat_of m ≡ Some i
-      seated_still m i other e = ap (λ (b : Bool). cond b None (r.seat_of m)) (ne_eqb w.knows.number m (λ same. other (some_same i gone (sym e ∙ sym (ap r.seat_of same) ∙ w_fit.seated)))) ∙ e
+      seated_still m i other e = ap (λ (b : Bool). cond b None (r.seat_of m)) (ne_eqb w.knows.number m (λ same. other (some_same (sym e ∙ sym (ap r.seat_of same) ∙ w_fit.seated)))) ∙ e
 
       one_live_less : live_count after + 1 ≡ live_count s.views
       one_live_less = live_count-gone changed gone w spent_view (at_changed_list, w_live) refl ∙ live_count-same s.views id v both sits live

@@ -12,16 +12,9 @@ use Rattle.turn_cell.specs.History.{entries_of, BeginsWith}
 use Rattle.turn_cell.specs.Knowledge.{is_one_of, entered, outside, with_entry}
 use Rattle.turn_cell.specs.Rule.{live_count, Sits, FitsFirst, Fits, InTurns}
 use Rattle.turn_cell.specs.Steps.{first_view, HandsOut, Takes, Counts, Gives}
-use Rattle.turn_cell.specs.declared.knowledge.Known.{Known}
 use Rattle.turn_cell.specs.declared.knowledge.View.{View}
-use Rattle.turn_cell.proofs.Entries.{is_one_of-cons, entries_of-append, entries_of-other, begins-grown, begins-itself}
+use Rattle.turn_cell.proofs.Entries.{some_same, none_some, is_one_of-cons, entries_of-append, entries_of-other, begins-grown, begins-itself}
 use Rattle.turn_cell.proofs.Views.{at_changed, sat_after_set, live_count-same, each_after_set, each_after_push}
-
-some_same : (m n : ℕ) → Some m ≡ Some n → m ≡ n
-some_same m n e = cc
-
-start_same : {M : Type 0} (x y : M) → Some x ≡ Some y → x ≡ y
-start_same x y e = cc
 
 first_same : {E : Type 0} {x y : E} {xs ys : List E} → x ∷ xs ≡ y ∷ ys → x ≡ y
 first_same e = cc
@@ -44,17 +37,11 @@ taken_out {B = B} b r found held others e e' is =
 
 -- a job that is that of the first machine
 pub job_of_start : {M J : Type 0} (job : M → J) (o : Option M) (j : J) → option_map job o ≡ Some j → (x : M) → o ≡ Some x → j ≡ job x
-job_of_start {J = J} job o j same x begun = some_job (sym same ∙ ap (option_map job) begun)
-  where
-    some_job : {x y : J} → Some x ≡ Some y → x ≡ y
-    some_job e = cc
+job_of_start job o j same x begun = some_same (sym same ∙ ap (option_map job) begun)
 
 -- one slot that is held is the first one
 pub held_first : {S : Type 0} (x : ℕ × S) (held : List (ℕ × S)) → held ≡ x ∷ [] → held ≡ x ∷ rest held
 held_first {S = S} x held e = e ∙ ap (λ (l : List (ℕ × S)). x ∷ rest l) (sym e)
-
-none_some : {n : ℕ} → None ≡ Some n → ⊥
-none_some e = cc
 
 module _ {B M E J : Type 0} (owner : E → Option ℕ) (history : B → List E) (job_of : B → J) (job : M → J) (start : M) where
   abbrev S : Type 0
@@ -89,7 +76,7 @@ module _ {B M E J : Type 0} (owner : E → Option ℕ) (history : B → List E) 
       given_sat false given nobody = cc
 
       sat : (m i : ℕ) (b : Bool) → eqb n m ≡ b → cond {A = Option ℕ} b (Some 0) None ≡ Some i → (v : View M E) × Sits (first_view start n ∷ []) i v × (v.knows.number ≡ m)
-      sat m i true same e = (first_view start n, (subst (λ (k : ℕ). get_elem? (first_view {E = E} start n ∷ []) k ≡ some (first_view {E = E} start n)) (some_same 0 i e) refl, refl), eqb-true n m same)
+      sat m i true same e = (first_view start n, (subst (λ (k : ℕ). get_elem? (first_view {E = E} start n ∷ []) k ≡ some (first_view {E = E} start n)) (some_same e) refl, refl), eqb-true n m same)
       sat m i false other e = absurd (none_some e)
 
       first : Fits owner [] seat_of start 0 0 1 0 (first_view start n)
@@ -175,7 +162,7 @@ module _ {B M E J : Type 0} (owner : E → Option ℕ) (history : B → List E) 
           started = f.started;
           begins = begins-grown log r.log u.knows.seen begins f.begins;
           seen_own = f.seen_own;
-          all_own = same_entries u.knows.number (λ at. other (some_same j id (sym f.seated ∙ at))) ∙ f.all_own;
+          all_own = same_entries u.knows.number (λ at. other (some_same (sym f.seated ∙ at))) ∙ f.all_own;
           seated = f.seated;
           in_turn = λ inside. absurd (no_other j u other there inside);
           first = λ is_first. first_still j u.knows.given u.knows.joined u.knows.unjoined (f.first is_first);
@@ -239,7 +226,7 @@ module _ {B M E J : Type 0} (owner : E → Option ℕ) (history : B → List E) 
 
           -- the entry belongs to no number that another seat has, or none
           elsewhere : (n : ℕ) → (r.seat_of n ≡ Some id → ⊥) → owner e ≢ Some n
-          elsewhere n not_here e_n = ⊎_elim (λ (none_owner : owner e ≡ None). cc) (λ (mine : owner e ≡ Some v.knows.number). not_here (subst (λ (k : ℕ). r.seat_of k ≡ Some id) (some_same v.knows.number n (sym mine ∙ e_n)) fit.seated)) allowed
+          elsewhere n not_here e_n = ⊎_elim (λ (none_owner : owner e ≡ None). cc) (λ (mine : owner e ≡ Some v.knows.number). not_here (subst (λ (k : ℕ). r.seat_of k ≡ Some id) (some_same (sym mine ∙ e_n)) fit.seated)) allowed
 
       -- the turn is given back, with a machine of the same job that has the history which the seat has seen
       gives_back : (b : B) → length s.homes ≡ 1 → history b ≡ v.knows.seen → job_of b ≡ job start
@@ -303,7 +290,7 @@ module _ {B M E J : Type 0} (owner : E → Option ℕ) (history : B → List E) 
 
               handed : HandsOut owner history job_of job v b
               handed = record {
-                same_job = λ x begun. (r.free is_free).3 ∙ ap job (start_same start x (sym fit.started ∙ begun));
+                same_job = λ x begun. (r.free is_free).3 ∙ ap job (some_same (sym fit.started ∙ begun));
                 begins = subst (λ (l : List E). BeginsWith l v.knows.seen) (sym same_history) fit.begins;
                 seen_own = fit.seen_own;
                 all_own = ap (λ (l : List E). entries_of owner v.knows.number l) same_history ∙ fit.all_own;
