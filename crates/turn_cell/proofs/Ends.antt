@@ -100,7 +100,7 @@ module _ {B M E J : Type 0} (owner : E → Option ℕ) (history : B → List E) 
         where
           seated : (o : Option ℕ) → r.seat_of n ≡ o → entries_of owner n r.log ≡ entries_left v.knows n
           seated (Some i) e =
-              let t = r.sat n i e in
+              let t = r.each_seat n i e in
               let same : v.knows.number ≡ n = sym (ap (λ (x : View M E). x.knows.number) (alone i t.0 t.1)) ∙ t.2 in
               ap (λ (m : ℕ). entries_of owner m r.log) (sym same) ∙ fit.all_own ∙ sym (ap (λ (b : Bool). cond b v.knows.own_entries (joined_entries v.knows.joined n)) (eq-eqb v.knows.number n same))
           seated None e =

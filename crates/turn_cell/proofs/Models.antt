@@ -1,21 +1,21 @@
 -- What follows of two seats or two cells that are equal, as contracts see them.
 use Rattle.std.proofs.Common.{◌≡◌, ap}
-use Rattle.turn_cell.specs.Seats.{Cell, Sitting}
+use Rattle.turn_cell.specs.Seats.{CellValue, SeatValue}
 use Rattle.turn_cell.specs.declared.knowledge.Known.{Known}
 
 module _ {M : Type 0} where
-  pub same_table : {x y : Cell M} → x ≡ y → x.table ≡ y.table
-  same_table e = ap (λ (x : Cell M). x.table) e
+  pub same_table : {x y : CellValue M} → x ≡ y → x.table ≡ y.table
+  same_table e = ap (λ (x : CellValue M). x.table) e
 
-  pub same_start : {x y : Cell M} → x ≡ y → x.start ≡ y.start
-  same_start e = ap (λ (x : Cell M). x.start) e
+  pub same_start : {x y : CellValue M} → x ≡ y → x.start ≡ y.start
+  same_start e = ap (λ (x : CellValue M). x.start) e
 
 module _ {M E : Type 0} where
-  pub same_cell : {x y : Sitting M E} → x ≡ y → x.cell ≡ y.cell
-  same_cell e = ap (λ (x : Sitting M E). x.cell) e
+  pub same_cell : {x y : SeatValue M E} → x ≡ y → x.cell ≡ y.cell
+  same_cell e = ap (λ (x : SeatValue M E). x.cell) e
 
-  pub same_knows : {x y : Sitting M E} → x ≡ y → x.knows ≡ y.knows
-  same_knows e = ap (λ (x : Sitting M E). x.knows) e
+  pub same_knows : {x y : SeatValue M E} → x ≡ y → x.knows ≡ y.knows
+  same_knows e = ap (λ (x : SeatValue M E). x.knows) e
 
 module _ {E : Type 0} where
   pub same_in_turn : {x y : Known E} → x ≡ y → x.in_turn ≡ y.in_turn

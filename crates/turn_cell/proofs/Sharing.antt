@@ -14,7 +14,7 @@ use Rattle.turn_cell.specs.Rule.{live_count, Sits, IsJoined, FitsFirst, Fits, In
 use Rattle.turn_cell.specs.Steps.{splitting_view, split_view, joining_view, spent_view}
 use Rattle.turn_cell.specs.declared.knowledge.View.{View}
 use Rattle.turn_cell.proofs.Entries.{some_same, none_some, is_one_of-cons, entries_of-begins, entries_of-longer, begins-longer, longer-first, longer-second}
-use Rattle.turn_cell.proofs.Views.{at_changed, sat_after_set, sits_set, sits_push, same_view, live_count-same, live_count-more, live_count-gone, only_one, each_after_set, each_after_push}
+use Rattle.turn_cell.proofs.Views.{at_changed, each_seat_after_set, sits_set, sits_push, same_view, live_count-same, live_count-more, live_count-gone, only_one, each_after_set, each_after_push}
 
 -- what has no seat has none after a seat is gone
 still_none : (b : Bool) (found : Option ℕ) → found ≡ None → cond b None found ≡ None
@@ -44,7 +44,7 @@ module _ {B M E J : Type 0} (owner : E → Option ℕ) (history : B → List E) 
     free = r.free;
     taken = λ held. let t = r.taken held in (t.0, (t.1.0, kept_view r.holder t.1.0 (not_holder held) t.1.1, t.1.2));
     longest = dite (ℕ_discrete r.longest.0 id) longest_here longest_there;
-    sat = λ m i e. sat m i (eqb n m) refl e;
+    each_seat = λ m i e. each_seat m i (eqb n m) refl e;
     fits = each_after_push P changed new (λ _. of_new) (each_after_set P s.views id left (λ _. of_first) of_others);
   }
     where
@@ -114,9 +114,9 @@ module _ {B M E J : Type 0} (owner : E → Option ℕ) (history : B → List E) 
       known_still m true given nobody = absurd (none_some (sym nobody))
       known_still m false given nobody = first.all_known m given nobody
 
-      sat : (m i : ℕ) (b : Bool) → eqb n m ≡ b → cond b (Some place) (r.seat_of m) ≡ Some i → (u : View M E) × Sits (changed ++ new ∷ []) i u × (u.knows.number ≡ m)
-      sat m i true same e = (new, (subst (λ (k : ℕ). get_elem? (changed ++ new ∷ []) k ≡ some new) (some_same e) (at_last changed new place refl), refl), eqb-true n m same)
-      sat m i false other e = let t = sat_after_set r.seat_of s.views id v left sits live refl r.sat m i e in (t.0, sits_push changed i new t.0 t.1, t.2)
+      each_seat : (m i : ℕ) (b : Bool) → eqb n m ≡ b → cond b (Some place) (r.seat_of m) ≡ Some i → (u : View M E) × Sits (changed ++ new ∷ []) i u × (u.knows.number ≡ m)
+      each_seat m i true same e = (new, (subst (λ (k : ℕ). get_elem? (changed ++ new ∷ []) k ≡ some new) (some_same e) (at_last changed new place refl), refl), eqb-true n m same)
+      each_seat m i false other e = let t = each_seat_after_set r.seat_of s.views id v left sits live refl r.each_seat m i e in (t.0, sits_push changed i new t.0 t.1, t.2)
 
       of_new : P place new
       of_new = record {
@@ -176,7 +176,7 @@ module _ {B M E J : Type 0} (owner : E → Option ℕ) (history : B → List E) 
     free = r.free;
     taken = λ held. let t = r.taken held in (t.0, (t.1.0, kept_view r.holder t.1.0 (not_holder id v sits is_outside held) (not_holder gone w w_sits w_outside held) t.1.1, t.1.2));
     longest = dite (ℕ_discrete r.longest.0 id) longest_here (λ other. dite (ℕ_discrete r.longest.0 gone) longest_gone (longest_there other));
-    sat = λ m i e. sat m i (eqb w.knows.number m) refl e;
+    each_seat = λ m i e. each_seat m i (eqb w.knows.number m) refl e;
     fits = each_after_set P changed gone spent_view (λ there. absurd (cc)) (λ j u still sits_j. each_after_set Q s.views id both (λ _ _. of_first) of_others j u sits_j still);
   }
     where
@@ -254,13 +254,13 @@ module _ {B M E J : Type 0} (owner : E → Option ℕ) (history : B → List E) 
       known_still m true given nobody = refl
       known_still m false given nobody = first.all_known m given nobody
 
-      sat : (m i : ℕ) (b : Bool) → eqb w.knows.number m ≡ b → cond b None (r.seat_of m) ≡ Some i → (u : View M E) × Sits after i u × (u.knows.number ≡ m)
-      sat m i true same e = absurd (none_some e)
-      sat m i false other e = let t = sat_after_set r.seat_of s.views id v both sits live refl r.sat m i e in (t.0, sits_set changed gone i spent_view t.0 not_gone t.1, t.2)
+      each_seat : (m i : ℕ) (b : Bool) → eqb w.knows.number m ≡ b → cond b None (r.seat_of m) ≡ Some i → (u : View M E) × Sits after i u × (u.knows.number ≡ m)
+      each_seat m i true same e = absurd (none_some e)
+      each_seat m i false other e = let t = each_seat_after_set r.seat_of s.views id v both sits live refl r.each_seat m i e in (t.0, sits_set changed gone i spent_view t.0 not_gone t.1, t.2)
         where
           not_gone : i ≢ gone
           not_gone same =
-              let u = r.sat m i e in
+              let u = r.each_seat m i e in
               let here : u.0 ≡ w = same_view s.views gone u.0 w (subst (λ (k : ℕ). get_elem? s.views k ≡ some u.0) same u.1.0) w_sits.0 in
               let yes : eqb w.knows.number m ≡ true = eq-eqb w.knows.number m (sym (ap (λ (x : View M E). x.knows.number) here) ∙ u.2) in cc
 

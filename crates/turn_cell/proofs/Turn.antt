@@ -14,7 +14,7 @@ use Rattle.turn_cell.specs.Rule.{live_count, Sits, FitsFirst, Fits, InTurns}
 use Rattle.turn_cell.specs.Steps.{first_view, HandsOut, Takes, Counts, Gives}
 use Rattle.turn_cell.specs.declared.knowledge.View.{View}
 use Rattle.turn_cell.proofs.Entries.{some_same, none_some, is_one_of-cons, entries_of-append, entries_of-other, begins-grown, begins-itself}
-use Rattle.turn_cell.proofs.Views.{at_changed, sat_after_set, live_count-same, each_after_set, each_after_push}
+use Rattle.turn_cell.proofs.Views.{at_changed, each_seat_after_set, live_count-same, each_after_set, each_after_push}
 
 first_same : {E : Type 0} {x y : E} {xs ys : List E} → x ∷ xs ≡ y ∷ ys → x ≡ y
 first_same e = cc
@@ -61,7 +61,7 @@ module _ {B M E J : Type 0} (owner : E → Option ℕ) (history : B → List E) 
     free = λ _. (b, refl, empty, same_job);
     taken = λ ne. absurd (ne refl);
     longest = (0, first_view start n, (refl, refl), refl);
-    sat = λ m i e. sat m i (eqb n m) refl e;
+    each_seat = λ m i e. each_seat m i (eqb n m) refl e;
     fits = each_after_push (λ id v. Fits owner [] seat_of start 0 0 1 id v) [] (first_view start n) (λ _. first) (λ j u sits. absurd (some-ne-none u (sym sits.0)));
   }
     where
@@ -71,13 +71,13 @@ module _ {B M E J : Type 0} (owner : E → Option ℕ) (history : B → List E) 
       new : (m : ℕ) → is_one_of (n ∷ []) m ≡ false → (seat_of m ≡ None) × (entries_of owner m [] ≡ [])
       new m other = (ap (λ (b : Bool). cond b (Some 0) None) (is_one_of-cons n [] m other).0, refl)
 
-      given_sat : (b : Bool) → (b || false) ≡ true → cond {A = Option ℕ} b (Some 0) None ≡ None → ⊥
-      given_sat true given nobody = cc
-      given_sat false given nobody = cc
+      given_has_seat : (b : Bool) → (b || false) ≡ true → cond {A = Option ℕ} b (Some 0) None ≡ None → ⊥
+      given_has_seat true given nobody = cc
+      given_has_seat false given nobody = cc
 
-      sat : (m i : ℕ) (b : Bool) → eqb n m ≡ b → cond {A = Option ℕ} b (Some 0) None ≡ Some i → (v : View M E) × Sits (first_view start n ∷ []) i v × (v.knows.number ≡ m)
-      sat m i true same e = (first_view start n, (subst (λ (k : ℕ). get_elem? (first_view {E = E} start n ∷ []) k ≡ some (first_view {E = E} start n)) (some_same e) refl, refl), eqb-true n m same)
-      sat m i false other e = absurd (none_some e)
+      each_seat : (m i : ℕ) (b : Bool) → eqb n m ≡ b → cond {A = Option ℕ} b (Some 0) None ≡ Some i → (v : View M E) × Sits (first_view start n ∷ []) i v × (v.knows.number ≡ m)
+      each_seat m i true same e = (first_view start n, (subst (λ (k : ℕ). get_elem? (first_view {E = E} start n ∷ []) k ≡ some (first_view {E = E} start n)) (some_same e) refl, refl), eqb-true n m same)
+      each_seat m i false other e = absurd (none_some e)
 
       first : Fits owner [] seat_of start 0 0 1 0 (first_view start n)
       first = record {
@@ -87,7 +87,7 @@ module _ {B M E J : Type 0} (owner : E → Option ℕ) (history : B → List E) 
         all_own = refl;
         seated = ap (λ (b : Bool). cond b (Some 0) None) (eq-eqb n n refl);
         in_turn = λ inside. absurd (cc);
-        first = λ _. record { is_first_view = refl; each_joined = λ k d h. absurd (omega arith); new = new; all_known = λ m given nobody. absurd (given_sat (eqb n m) given nobody); counts = refl };
+        first = λ _. record { is_first_view = refl; each_joined = λ k d h. absurd (omega arith); new = new; all_known = λ m given nobody. absurd (given_has_seat (eqb n m) given nobody); counts = refl };
       }
 
   pub begins_with : (b : B) (n : ℕ) (slots : List (Option B)) → slots ≡ Some b ∷ [] → history b ≡ [] → job_of b ≡ job start → Rule (opening (0 ∷ 0 ∷ []) slots (first_view start n))
@@ -121,7 +121,7 @@ module _ {B M E J : Type 0} (owner : E → Option ℕ) (history : B → List E) 
       free = free;
       taken = λ held. let t = taken held in (t.0, (w, (subst (λ (i : ℕ). get_elem? (set s.views id w) i ≡ some w) (in_turn t.1).1 at_w, sits.1), t.1));
       longest = (id, w, (at_w, sits.1), refl);
-      sat = sat_after_set r.seat_of s.views id v w sits sits.1 refl r.sat;
+      each_seat = each_seat_after_set r.seat_of s.views id v w sits sits.1 refl r.each_seat;
       fits = each_after_set (λ j u. Fits owner log r.seat_of start holder turn live j u) s.views id w (λ _. mine) others;
     }
       where

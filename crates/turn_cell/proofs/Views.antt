@@ -96,13 +96,13 @@ module _ {M E : Type 0} where
       ⊎_elim (λ t. others j u (t, sits.1)) (λ t. subst (λ (i : ℕ). P i u) (sym t.0) (subst (λ (x : View M E). P (length views) x) t.1 (here (ap (λ (x : View M E). x.is_live) t.1 ∙ sits.1)))) (at_end views w u j sits.0)
 
   -- whose numbers they are, after a view was changed that keeps its number
-  pub sat_after_set : (seat_of : ℕ → Option ℕ) (views : List (View M E)) (id : ℕ) (v w : View M E) → Sits views id v → w.is_live ≡ true → w.knows.number ≡ v.knows.number
+  pub each_seat_after_set : (seat_of : ℕ → Option ℕ) (views : List (View M E)) (id : ℕ) (v w : View M E) → Sits views id v → w.is_live ≡ true → w.knows.number ≡ v.knows.number
       → ((n i : ℕ) → seat_of n ≡ Some i → (u : View M E) × Sits views i u × (u.knows.number ≡ n))
       → (n i : ℕ) → seat_of n ≡ Some i → (u : View M E) × Sits (set views id w) i u × (u.knows.number ≡ n)
-  sat_after_set seat_of views id v w sits live same_number sat n i e = dite (ℕ_discrete i id) here there
+  each_seat_after_set seat_of views id v w sits live same_number each_seat n i e = dite (ℕ_discrete i id) here there
     where
       t : (u : View M E) × Sits views i u × (u.knows.number ≡ n)
-      t = sat n i e
+      t = each_seat n i e
 
       here : i ≡ id → (u : View M E) × Sits (set views id w) i u × (u.knows.number ≡ n)
       here same = (

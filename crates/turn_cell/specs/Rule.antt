@@ -74,6 +74,6 @@ module _ {B M E J : Type 0} (owner : E → Option ℕ) (history : B → List E) 
     -- some seat has seen the whole history, which so is the longest that any seat has seen
     pub longest : (id : ℕ) × (v : View M E) × Sits s.views id v × (v.knows.seen ≡ log)
     -- a number that a seat has is that of a seat which is there
-    pub sat : (n id : ℕ) → seat_of n ≡ Some id → (v : View M E) × Sits s.views id v × (v.knows.number ≡ n)
+    pub each_seat : (n id : ℕ) → seat_of n ≡ Some id → (v : View M E) × Sits s.views id v × (v.knows.number ≡ n)
     -- what each seat knows fits the history
     pub fits : (id : ℕ) (v : View M E) → Sits s.views id v → Fits owner log seat_of start holder (slice_index s.words 1) (live_count s.views) id v

@@ -31,11 +31,11 @@ pub struct TurnCell<M: Machine> {
 
 impl<M: Machine> Model for TurnCell<M> {
     ghost use Rattle.std.specs.Prelude.{◌≡◌, Some};
-    ghost use Rattle.turn_cell.specs.Seats.{Cell, cell_coded};
+    ghost use Rattle.turn_cell.specs.Seats.{CellValue, cell_value_coded};
 
-    ghost Value = { Cell M };
+    ghost Value = { CellValue M };
 
-    ghost coded = { cell_coded M.code };
+    ghost coded = { cell_value_coded M.code };
 
     ghost view = { λ c. record { table = c.table.shared.table_id; start = Some c.table.shared.key.0.value } };
 

@@ -13,11 +13,11 @@ pub struct Seat<M: Machine> {
 
 impl<M: Machine> Model for Seat<M> {
     ghost use Rattle.std.specs.Prelude.{◌≡◌, true, length};
-    ghost use Rattle.turn_cell.specs.Seats.{Sitting, sitting_coded, emptied_slots};
+    ghost use Rattle.turn_cell.specs.Seats.{SeatValue, seat_value_coded, emptied_slots};
 
-    ghost Value = { Sitting M M.Entry };
+    ghost Value = { SeatValue M M.Entry };
 
-    ghost coded = { sitting_coded M.code M.Entry.code };
+    ghost coded = { seat_value_coded M.code M.Entry.code };
 
     ghost view = { λ s. record { cell = record { table = s.inner.table_id; start = s.inner.me.0.start }; knows = s.inner.me.0.knows } };
 
