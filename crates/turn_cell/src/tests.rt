@@ -16,11 +16,13 @@ use std::thread::{Threads, join};
 
 mod counter;
 
-// The turns that each thread takes: it adds 0, 1 and 2, and so on, and so much in all. The value at first.
+// The turns that each thread takes.
 const ROUNDS: u64 = 50;
 
-const ADDED: u64 = 49;
+// What a thread adds in its turns: 0, 1, 2, 0, 1, 2 and so on, sixteen times three turns and two more.
+const ADDED: u64 = 16 * 3 + 1;
 
+// The value at first.
 const FIRST: u64 = 7;
 
 /// A seat with its number, and the steps that it left.

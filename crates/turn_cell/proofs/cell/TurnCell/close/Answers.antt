@@ -1,3 +1,4 @@
+-- What the closed table has in its slot, and what is known of it.
 use Rattle.std.proofs.Common.{◌∙◌, sym, ap, subst, refl, box_value, option_map, Some}
 use Rattle.std.specs.Option.{IsSome}
 use Rattle.turn_cell.proofs.Models.{same_start, same_knows, same_in_turn, same_is_first, same_unjoined}

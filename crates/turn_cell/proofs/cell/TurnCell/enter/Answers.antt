@@ -1,3 +1,4 @@
+-- A seat outside the turn may try to take it; what it then takes out of the slot is what the step handed out.
 use Rattle.std.proofs.Common.{◌∙◌, sym, ap, arith, box_value, Some}
 use Rattle.turn_cell.specs.Seats.{emptied_slots}
 use Rattle.turn_cell.proofs.Models.{same_table, same_cell, same_knows, same_in_turn}

@@ -1,3 +1,4 @@
+-- The first seat may take the other in.
 use Rattle.std.proofs.Common.{◌∙◌, sym, ap, arith, box_value}
 use Rattle.turn_cell.specs.Seats.{emptied_slots}
 use Rattle.turn_cell.proofs.Models.{same_table, same_cell, same_knows, same_in_turn, same_is_first}

@@ -1,3 +1,4 @@
+-- The entry may be counted, and then the turn may be given back.
 use Rattle.std.proofs.Common.{◌≡◌, ◌⊎◌, ◌∙◌, sym, ap, subst, arith, [], ◌∷◌, ◌++◌, length, box_value, option_map, true, Some, None}
 use Rattle.atomic_table.specs.Table.{rest}
 use Rattle.turn_cell.specs.Seats.{emptied_slots}

@@ -1,3 +1,4 @@
+-- The turn may be given back.
 use Rattle.std.proofs.Common.{◌∙◌, sym, ap, arith, ◌∷◌, box_value, option_map, Some}
 use Rattle.atomic_table.specs.Table.{rest}
 use Rattle.turn_cell.specs.Seats.{emptied_slots}

@@ -1,3 +1,4 @@
+-- The rule holds at the beginning.
 use Rattle.std.proofs.Common.{◌∙◌, sym, ap, [], ◌∷◌, ◌++◌, box_value, Some}
 use Rattle.turn_cell.proofs.Turn.{begins_with}
 use Rattle.turn_cell.proofs.cell.TurnCell.new.Goals as goal

@@ -1,3 +1,4 @@
+-- The first seat may be split.
 use Rattle.std.proofs.Common.{◌∙◌, sym, ap, arith, box_value}
 use Rattle.turn_cell.specs.Knowledge.{is_one_of}
 use Rattle.turn_cell.proofs.Models.{same_table, same_cell, same_knows, same_in_turn, same_is_first, same_given}
