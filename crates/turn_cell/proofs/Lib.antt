@@ -1,0 +1,7 @@
+mod Entries
+mod Views
+mod Turn
+mod Sharing
+mod Ends
+mod Owning
+mod Models
