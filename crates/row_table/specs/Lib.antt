@@ -1,1 +1,4 @@
+pub mod Keys
+pub mod SameTables
+pub mod Sorting
 pub mod Tables

@@ -1,0 +1,4 @@
+pub mod Different
+pub mod Rows
+pub mod Same
+pub mod Sorting
