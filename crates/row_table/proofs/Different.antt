@@ -37,11 +37,11 @@ times-without_other gone key (row ∷ rows) apart =
     let ih : times key (without gone rows) ≡ times key rows = times-without_other gone key rows apart in
     let whole : times key (row ∷ rows) ≡ one_if (row_same key row) + times key rows = times-cons key row rows in
     let dropped : P true = λ h.
-        let none : one_if (row_same key row) ≡ 0 = ap one_if (unequal gone key row apart h) in
-        omega arith in
+    let none : one_if (row_same key row) ≡ 0 = ap one_if (unequal gone key row apart h) in
+    omega arith in
     let kept : P false = λ h.
-        let more : times key (row ∷ without gone rows) ≡ one_if (row_same key row) + times key (without gone rows) = times-cons key row (without gone rows) in
-        omega arith in
+    let more : times key (row ∷ without gone rows) ≡ one_if (row_same key row) + times key (without gone rows) = times-cons key row (without gone rows) in
+    omega arith in
     let either : (b : Bool) → P b = λ b. elim b as P [ true ↦ dropped | false ↦ kept ] in
     either (row_same gone row) refl
 
@@ -52,9 +52,9 @@ times-without_it gone key (row ∷ rows) same =
     let ih : times key (without gone rows) ≡ 0 = times-without_it gone key rows same in
     let dropped : P true = λ h. ih in
     let kept : P false = λ h.
-        let more : times key (row ∷ without gone rows) ≡ one_if (row_same key row) + times key (without gone rows) = times-cons key row (without gone rows) in
-        let none : one_if (row_same key row) ≡ 0 = ap one_if (equal_too gone key row same h) in
-        omega arith in
+    let more : times key (row ∷ without gone rows) ≡ one_if (row_same key row) + times key (without gone rows) = times-cons key row (without gone rows) in
+    let none : one_if (row_same key row) ≡ 0 = ap one_if (equal_too gone key row same h) in
+    omega arith in
     let either : (b : Bool) → P b = λ b. elim b as P [ true ↦ dropped | false ↦ kept ] in
     either (row_same gone row) refl
 
@@ -70,12 +70,12 @@ times-different (first ∷ rest) key =
     let whole : times key (first ∷ rest) ≡ one_if (row_same key first) + times key rest = times-cons key first rest in
     let left : times key (different (first ∷ rest)) ≡ one_if (row_same key first) + times key (without first (different rest)) = times-cons key first (without first (different rest)) in
     let here : P true = λ h.
-        let one : one_if (row_same key first) ≡ 1 = ap one_if h in
-        let none : times key (without first (different rest)) ≡ 0 = times-without_it first key (different rest) (turned key first true h) in
-        omega arith in
+    let one : one_if (row_same key first) ≡ 1 = ap one_if h in
+    let none : times key (without first (different rest)) ≡ 0 = times-without_it first key (different rest) (turned key first true h) in
+    omega arith in
     let there : P false = λ h.
-        let zero : one_if (row_same key first) ≡ 0 = ap one_if h in
-        let all : times key (without first (different rest)) ≡ times key (different rest) = times-without_other first key (different rest) (turned key first false h) in
-        omega arith in
+    let zero : one_if (row_same key first) ≡ 0 = ap one_if h in
+    let all : times key (without first (different rest)) ≡ times key (different rest) = times-without_other first key (different rest) (turned key first false h) in
+    omega arith in
     let either : (b : Bool) → P b = λ b. elim b as P [ true ↦ here | false ↦ there ] in
     either (row_same key first) refl

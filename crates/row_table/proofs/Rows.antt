@@ -1,21 +1,20 @@
 -- The order of rows is total and ties only equal rows; what sorting a table's rows keeps.
-use Rattle.std.proofs.Common.{◌≡◌, ℕ, zero, suc, ◌+◌, ◌<◌, ◌≤◌, Bool, true, false, ◌&&◌, cond, List, [], ◌∷◌, length, get_or, refl, sym, ◌∙◌, ap, subst, arith, add-one}
+use Rattle.std.proofs.Common.{◌≡◌, zero, suc, ◌+◌, Bool, true, false, ◌&&◌, cond, List, [], ◌∷◌, get_or, refl, sym, ◌∙◌, ap, arith, add-one}
 use Rattle.std.specs.declared.cmp.Ordering.{Ordering}
 use Rattle.std.specs.declared.cmp.Ordering.TheVariants.{Less, Equal, Greater}
 use Rattle.std.specs.Bool.{Decides}
 use Rattle.std.specs.Ordering.{is_eq, is_lt, is_gt, ordering_reverse}
-use Rattle.std.specs.List.{AllByRecursion, count_by}
+use Rattle.std.specs.List.{AllByRecursion}
 use Rattle.std.specs.List.Sorted.{IsSorted, IsPermutation}
 use Rattle.std.specs.Cmp.{IsTotalOrder}
 use Rattle.std.specs.Cmp.Lexicographic.{lists_total, lists_ties, pointwise_decides}
-use Rattle.std.proofs.lemmas.Cmp.{tied_itself}
 use Rattle.std.proofs.lemmas.List.Elements.{recursion_from_All, All-from_get_or}
 use Rattle.std.proofs.lemmas.List.Sorted.{ranks_by, sorted_far, sum_by-IsPermutation}
 use Rattle.scalar_value.specs.declared.value.Value.{Value}
 use Rattle.scalar_value.specs.Order.{value_cmp}
 use Rattle.scalar_value.specs.OrderLaws.{value_cmp-total, value_same-decides}
 use Rattle.row_table.specs.declared.field.Field.{Field}
-use Rattle.row_table.specs.SameTables.{row_same, times, IsAsOften}
+use Rattle.row_table.specs.SameTables.{row_same, IsAsOften}
 use Rattle.row_table.specs.Sorting.{row_order, insert_by, sorted_by, sorted_rows}
 use Rattle.row_table.specs.Tables.{fits_row, fit_rows}
 use Rattle.row_table.proofs.Sorting.{Ascends, ascends-sorted, ascending_alike, sum_by-sorted}
@@ -109,8 +108,8 @@ fit_rows-insert fields order row [] p all = and_both (fits_row fields row) true 
 fit_rows-insert fields order row (other ∷ rows) p all =
     let parts = and_parts (fits_row fields other) (fit_rows fields rows) all in
     elim (is_gt (order row other)) as (λ b. fit_rows fields (cond b (other ∷ insert_by order row rows) (row ∷ other ∷ rows)) ≡ true) [
-      true ↦ and_both (fits_row fields other) (fit_rows fields (insert_by order row rows)) parts.0 (fit_rows-insert fields order row rows p parts.1)
-    | false ↦ and_both (fits_row fields row) (fit_rows fields (other ∷ rows)) p all
+      | true ↦ and_both (fits_row fields other) (fit_rows fields (insert_by order row rows)) parts.0 (fit_rows-insert fields order row rows p parts.1)
+      | false ↦ and_both (fits_row fields row) (fit_rows fields (other ∷ rows)) p all
     ]
 
 pub fit_rows-sorted : (fields : List Field) (order : List Value → List Value → Ordering) (rows : List (List Value)) → fit_rows fields rows ≡ true → fit_rows fields (sorted_by order rows) ≡ true

@@ -1,9 +1,9 @@
 -- When tables are the same, and what is shown of those.
-use Rattle.std.proofs.Common.{◌≡◌, ℕ, List, refl, sym, ◌∙◌, ap, subst}
+use Rattle.std.proofs.Common.{◌≡◌, List, refl, sym, ◌∙◌, ap, subst}
 use Rattle.scalar_value.specs.declared.value.Value.{Value}
 use Rattle.row_table.specs.declared.table.Mark.{Mark}
 use Rattle.row_table.specs.declared.table.Mark.TheVariants.{Kept, Unordered}
-use Rattle.row_table.specs.SameTables.{times, IsAsOften, SameRows, SameTables, shown_rows, shown}
+use Rattle.row_table.specs.SameTables.{SameRows, SameTables, shown_rows, shown}
 use Rattle.row_table.specs.Tables.{TableValue}
 use Rattle.row_table.proofs.Rows.{sorted_rows-as_often, sorted_rows-alike}
 

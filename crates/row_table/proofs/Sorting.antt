@@ -1,9 +1,9 @@
 -- A list sorted by insertion ascends, keeps each element as often, and is the only such list where ties are equal.
-use Rattle.std.proofs.Common.{◌≡◌, ℕ, suc, ◌+◌, ◌-◌, ◌<◌, ◌≤◌, Bool, true, false, cond, List, [], ◌∷◌, length, get_or, refl, sym, ◌∙◌, ap, ap₂, subst, arith}
+use Rattle.std.proofs.Common.{◌≡◌, ℕ, ◌+◌, ◌<◌, Bool, true, false, cond, List, [], ◌∷◌, refl, sym, ◌∙◌, ap, ap₂, subst, arith}
 use Rattle.std.specs.declared.cmp.Ordering.{Ordering}
 use Rattle.std.specs.declared.cmp.Ordering.TheVariants.{Less, Equal, Greater}
 use Rattle.std.specs.Bool.{Decides}
-use Rattle.std.specs.Ordering.{is_eq, is_lt, is_gt, ordering_reverse}
+use Rattle.std.specs.Ordering.{is_eq, is_gt, ordering_reverse}
 use Rattle.std.specs.List.{sum_by, count_by, AllByRecursion}
 use Rattle.std.specs.Cmp.{IsTotalOrder}
 use Rattle.std.proofs.lemmas.Cmp.{upto, tied_itself}
@@ -24,8 +24,8 @@ sum_by-insert {X} order f x (y ∷ ys) =
     let there : sum_by f (y ∷ insert_by order x ys) ≡ f y + sum_by f (insert_by order x ys) = sum_by-cons f y (insert_by order x ys) in
     let rest : sum_by f (insert_by order x ys) ≡ f x + sum_by f ys = sum_by-insert order f x ys in
     elim (is_gt (order x y)) as (λ b. sum_by f (cond b (y ∷ insert_by order x ys) (x ∷ y ∷ ys)) ≡ f x + sum_by f (y ∷ ys)) [
-      true ↦ omega arith
-    | false ↦ here
+      | true ↦ omega arith
+      | false ↦ here
     ]
 
 pub sum_by-sorted : {X : Type 0} (order : X → X → Ordering) (f : X → ℕ) (xs : List X) → sum_by f (sorted_by order xs) ≡ sum_by f xs
@@ -42,8 +42,8 @@ unfolding insert_by
 all_inserted order P x [] p all = (p, tt)
 all_inserted order P x (y ∷ ys) p all =
     elim (is_gt (order x y)) as (λ b. AllByRecursion P (cond b (y ∷ insert_by order x ys) (x ∷ y ∷ ys))) [
-      true ↦ (all.0, all_inserted order P x ys p all.1)
-    | false ↦ (p, all)
+      | true ↦ (all.0, all_inserted order P x ys p all.1)
+      | false ↦ (p, all)
     ]
 
 pub all_sorted : {X : Type 0} (order : X → X → Ordering) (P : X → Type 0) (xs : List X) → AllByRecursion P xs → AllByRecursion P (sorted_by order xs)
@@ -105,9 +105,9 @@ module _ {X : Type 0} (order : X → X → Ordering) (total : IsTotalOrder order
       let Q : Bool → Type 0 = λ b. same x y ≡ b → P x in
       let here : Q true = λ h. subst P (sym ((decides x y).0 h)) all.0 in
       let later : Q false = λ h.
-          let parts : often x (y ∷ ys) ≡ cond (same x y) 1 0 + often x ys = sum_by-cons (λ z. cond (same x z) 1 0) y ys in
-          let none : ◌≡◌ {A = ℕ} (cond (same x y) 1 0) 0 = ap (λ (b : Bool). cond {A = ℕ} b 1 0) h in
-          found P x ys (omega arith) all.1 in
+      let parts : often x (y ∷ ys) ≡ cond (same x y) 1 0 + often x ys = sum_by-cons (λ z. cond (same x z) 1 0) y ys in
+      let none : ◌≡◌ {A = ℕ} (cond (same x y) 1 0) 0 = ap (λ (b : Bool). cond {A = ℕ} b 1 0) h in
+      found P x ys (omega arith) all.1 in
       let either : (b : Bool) → Q b = λ b. elim b as Q [ true ↦ here | false ↦ later ] in
       either (same x y) refl
 
@@ -135,9 +135,9 @@ module _ {X : Type 0} (order : X → X → Ordering) (total : IsTotalOrder order
   ascending_alike (x ∷ xs) (y ∷ ys) up up' alike =
       let e : x ≡ y = heads_equal x y xs ys up up' alike in
       let rest : (z : X) → often z xs ≡ often z ys = λ z.
-          let left : often z (x ∷ xs) ≡ cond (same z x) 1 0 + often z xs = sum_by-cons (λ w. cond (same z w) 1 0) x xs in
-          let right : often z (y ∷ ys) ≡ cond (same z y) 1 0 + often z ys = sum_by-cons (λ w. cond (same z w) 1 0) y ys in
-          let equal : ◌≡◌ {A = ℕ} (cond (same z x) 1 0) (cond (same z y) 1 0) = ap (λ (w : X). cond {A = ℕ} (same z w) 1 0) e in
-          let whole : often z (x ∷ xs) ≡ often z (y ∷ ys) = alike z in
-          omega arith in
+      let left : often z (x ∷ xs) ≡ cond (same z x) 1 0 + often z xs = sum_by-cons (λ w. cond (same z w) 1 0) x xs in
+      let right : often z (y ∷ ys) ≡ cond (same z y) 1 0 + often z ys = sum_by-cons (λ w. cond (same z w) 1 0) y ys in
+      let equal : ◌≡◌ {A = ℕ} (cond (same z x) 1 0) (cond (same z y) 1 0) = ap (λ (w : X). cond {A = ℕ} (same z w) 1 0) e in
+      let whole : often z (x ∷ xs) ≡ often z (y ∷ ys) = alike z in
+      omega arith in
       ap₂ (λ z zs. z ∷ zs) e (ascending_alike xs ys up.1 up'.1 rest)

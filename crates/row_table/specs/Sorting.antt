@@ -1,5 +1,5 @@
 -- The canonical order of rows, and a list sorted by any order.
-use Rattle.std.specs.Prelude.{Bool, cond, List, [], ◌∷◌}
+use Rattle.std.specs.Prelude.{cond, List, [], ◌∷◌}
 use Rattle.std.specs.declared.cmp.Ordering.{Ordering}
 use Rattle.std.specs.Ordering.{is_gt}
 use Rattle.std.specs.Cmp.Lexicographic.{slice_cmp}

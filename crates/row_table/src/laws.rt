@@ -16,8 +16,7 @@ pub fn rows_in_order()
     ensures total { IsTotalOrder row_order }
     ensures ties_are_equal { (x y : List Value) → row_order x y ≡ Equal → x ≡ y }
     ensures same_rows_are_equal { (x y : List Value) → Decides (row_same x y) (x ≡ y) }
-{
-}
+{}
 
 /// Sorted rows ascend, each row stands among them as often as before, and there is one such list:
 /// the canonical order depends on nothing but how often each row stands.
@@ -26,27 +25,23 @@ pub fn rows_sorted()
     ensures as_often { (rows : List (List Value)) → IsAsOften (sorted_rows rows) rows }
     ensures one_order { (xs ys : List (List Value)) → IsAsOften xs ys → sorted_rows xs ≡ sorted_rows ys }
     ensures no_other { (xs ys : List (List Value)) → IsAsOften ys xs → IsSorted row_order ys → ys ≡ sorted_rows xs }
-{
-}
+{}
 
 /// To be the same table is an equivalence, and equal tables are the same.
 pub fn tables_same()
     ensures itself { (t : TableValue) → SameTables t t }
     ensures turned { (x y : TableValue) → SameTables x y → SameTables y x }
     ensures chained { (x y z : TableValue) → SameTables x y → SameTables y z → SameTables x z }
-{
-}
+{}
 
 /// A table is the same as the one that is shown of it, and of the same tables equal ones are shown:
 /// with equal rows in equal order.
 pub fn tables_shown()
     ensures the_same { (t : TableValue) → SameTables t (shown t) }
     ensures equal { (x y : TableValue) → SameTables x y → shown x ≡ shown y }
-{
-}
+{}
 
 /// Among the different keys stands each key once, and no other.
 pub fn keys_different()
     ensures { (list : List (List Value)) (key : List Value) → times key (different list) ≡ min (times key list) 1 }
-{
-}
+{}

@@ -91,7 +91,10 @@ fn rows_are_put_into_canonical_order(rt: HostRuntime) -> Result<(), Fail> {
     expect_frame(&rt, &sorted, &table);
     assert_eq!(rt; sorted.rows.len(), 6);
     for (place, source) in [2, 5, 3, 1, 4, 0].into_iter().enumerate() {
-        assert!(rt; sorted.rows.get(place) == table.rows.get(source), "at {place}");
+        assert!(rt;
+            sorted.rows.get(place) == table.rows.get(source),
+            "at {place}"
+        );
     }
     Ok(())
 }

@@ -1,5 +1,5 @@
 -- A sort by the order of rows leaves the sorted rows, which fit the columns as the rows did.
-use Rattle.std.proofs.Common.{rules, ◌≡◌, IsSorted, is_lt, ap, sym, ◌∙◌}
+use Rattle.std.proofs.Common.{rules, ◌≡◌, IsSorted, is_lt, ap, ◌∙◌}
 use Rattle.std.proofs.lemmas.List.Sorted.{answers_always, ranks_by}
 use Rattle.row_table.specs.Sorting.{row_order, sorted_rows}
 use Rattle.row_table.specs.Tables.{TableValue, fit_rows}
@@ -10,7 +10,7 @@ use Rattle.row_table.proofs.order.canonical.Goals.{After-drop-t-inside}
 rows_are : (c : After-drop-t-inside) → c.of.result ≡ sorted_rows c.t.inside.rows
 rows_are c =
     let sorted : IsSorted row_order c.sort_unstable_by.new.self.items =
-        c.sort_unstable_by.ensures.sorted (λ x y. is_lt (row_order x y)) (ranks_by row_order-total (λ x. x)) (answers_always _ _ _ (λ f a r g h. search rules)) in
+    c.sort_unstable_by.ensures.sorted (λ x y. is_lt (row_order x y)) (ranks_by row_order-total (λ x. x)) (answers_always _ _ _ (λ f a r g h. search rules)) in
     c.of.ensures ∙ sorted_rows_from_sort c.into_vec-rows.result.items c.sort_unstable_by.new.self.items c.sort_unstable_by.ensures.permutation sorted
     ∙ ap (λ rows. sorted_rows rows) (c.into_vec-rows.ensures ∙ c.replace.ensures.value)
 
