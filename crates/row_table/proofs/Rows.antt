@@ -1,15 +1,12 @@
 -- The order of rows is total and ties only equal rows; what sorting a table's rows keeps.
-use Rattle.std.proofs.Common.{◌≡◌, zero, suc, ◌+◌, Bool, true, false, ◌&&◌, cond, List, [], ◌∷◌, get_or, refl, sym, ◌∙◌, ap, arith, add-one}
+use Rattle.std.proofs.Common.{◌≡◌, Bool, true, false, ◌&&◌, cond, List, [], ◌∷◌, refl, sym, ◌∙◌}
 use Rattle.std.specs.declared.cmp.Ordering.{Ordering}
-use Rattle.std.specs.declared.cmp.Ordering.TheVariants.{Less, Equal, Greater}
 use Rattle.std.specs.Bool.{Decides}
-use Rattle.std.specs.Ordering.{is_eq, is_lt, is_gt, ordering_reverse}
-use Rattle.std.specs.List.{AllByRecursion}
+use Rattle.std.specs.Ordering.{is_eq, is_gt}
 use Rattle.std.specs.List.Sorted.{IsSorted, IsPermutation}
 use Rattle.std.specs.Cmp.{IsTotalOrder}
 use Rattle.std.specs.Cmp.Lexicographic.{lists_total, lists_ties, pointwise_decides}
-use Rattle.std.proofs.lemmas.List.Elements.{recursion_from_All, All-from_get_or}
-use Rattle.std.proofs.lemmas.List.Sorted.{ranks_by, sorted_far, sum_by-IsPermutation}
+use Rattle.std.proofs.lemmas.List.Sorted.{sum_by-IsPermutation}
 use Rattle.scalar_value.specs.declared.value.Value.{Value}
 use Rattle.scalar_value.specs.Order.{value_cmp}
 use Rattle.scalar_value.specs.OrderLaws.{value_cmp-total, value_same-decides}
@@ -17,7 +14,7 @@ use Rattle.row_table.specs.declared.field.Field.{Field}
 use Rattle.row_table.specs.SameTables.{row_same, IsAsOften}
 use Rattle.row_table.specs.Sorting.{row_order, insert_by, sorted_by, sorted_rows}
 use Rattle.row_table.specs.Tables.{fits_row, fit_rows}
-use Rattle.row_table.proofs.Sorting.{Ascends, ascends-sorted, ascending_alike, sum_by-sorted}
+use Rattle.row_table.proofs.Sorting.{ascends_from_sorted, sorted_from_ascends, ascends-sorted, ascending_alike, sum_by-sorted}
 
 pub row_order-total : IsTotalOrder row_order
 row_order-total = lists_total value_cmp-total
@@ -27,47 +24,6 @@ row_same-ties = lists_ties value_cmp (λ x y. refl)
 
 pub row_same-decides : (x y : List Value) → Decides (row_same x y) (x ≡ y)
 row_same-decides = pointwise_decides value_same-decides
-
--- ---- between std's word for a sorted list and `Ascends`
-
-reversed_lt : (o : Ordering) → is_lt (ordering_reverse o) ≡ false → is_gt o ≡ false
-reversed_lt Less h = refl
-reversed_lt Equal h = refl
-reversed_lt Greater h = cc
-
-reversed_gt : (o : Ordering) → is_gt o ≡ false → is_lt (ordering_reverse o) ≡ false
-reversed_gt Less h = refl
-reversed_gt Equal h = refl
-reversed_gt Greater h = cc
-
-module _ {X : Type 0} (order : X → X → Ordering) (total : IsTotalOrder order) where
-  not_greater : (x y : X) → is_lt (order y x) ≡ false → is_gt (order x y) ≡ false
-  not_greater x y h = reversed_lt (order x y) (sym (ap is_lt (total.antisymm y x)) ∙ h)
-
-  not_less : (x y : X) → is_gt (order x y) ≡ false → is_lt (order y x) ≡ false
-  not_less x y h = ap is_lt (total.antisymm y x) ∙ reversed_gt (order x y) h
-
-  sorted_tail : (x : X) (xs : List X) → IsSorted order (x ∷ xs) → IsSorted order xs
-  sorted_tail x xs up k d low high =
-      let at : is_lt (order (get_or (x ∷ xs) (suc k + 1) d) (get_or (x ∷ xs) (suc k) d)) ≡ false = up (suc k) d (omega arith) (omega arith) in
-      rw add-one (rw add-one at at)
-
-  head_least : (x : X) (xs : List X) → IsSorted order (x ∷ xs) → AllByRecursion (λ y. is_gt (order x y) ≡ false) xs
-  head_least x xs up =
-      recursion_from_All (λ y. is_gt (order x y) ≡ false) xs (All-from_get_or (λ y. is_gt (order x y) ≡ false) xs x (λ i h.
-      not_greater x (get_or xs i x) (sorted_far (λ a b. is_lt (order a b)) (ranks_by total (λ a. a)) (x ∷ xs) up 0 (suc i) x (omega arith) (omega arith))))
-
-  pub ascends_from_sorted : (xs : List X) → IsSorted order xs → Ascends order xs
-  ascends_from_sorted [] up = tt
-  ascends_from_sorted (x ∷ xs) up = (head_least x xs up, ascends_from_sorted xs (sorted_tail x xs up))
-
-  pub sorted_from_ascends : (xs : List X) → Ascends order xs → IsSorted order xs
-  sorted_from_ascends [] up k d low high = absurd (omega arith)
-  sorted_from_ascends (x ∷ []) up k d low high = absurd (omega arith)
-  sorted_from_ascends (x ∷ y ∷ ys) up zero d low high = not_less x y up.0.0
-  sorted_from_ascends (x ∷ y ∷ ys) up (suc k) d low high =
-      let at : is_lt (order (get_or (y ∷ ys) (k + 1) d) (get_or (y ∷ ys) k d)) ≡ false = sorted_from_ascends (y ∷ ys) up.1 k d (omega arith) (omega arith) in
-      rw add-one (rw add-one at at)
 
 -- ---- the sorted rows
 

@@ -1,12 +1,15 @@
 -- A list sorted by insertion ascends, keeps each element as often, and is the only such list where ties are equal.
-use Rattle.std.proofs.Common.{◌≡◌, ℕ, ◌+◌, ◌<◌, Bool, true, false, cond, List, [], ◌∷◌, refl, sym, ◌∙◌, ap, ap₂, subst, arith}
+use Rattle.std.proofs.Common.{◌≡◌, ℕ, zero, suc, ◌+◌, ◌<◌, Bool, true, false, cond, List, [], ◌∷◌, get_or, refl, sym, ◌∙◌, ap, ap₂, subst, arith, add-one}
 use Rattle.std.specs.declared.cmp.Ordering.{Ordering}
 use Rattle.std.specs.declared.cmp.Ordering.TheVariants.{Less, Equal, Greater}
 use Rattle.std.specs.Bool.{Decides}
-use Rattle.std.specs.Ordering.{is_eq, is_gt, ordering_reverse}
+use Rattle.std.specs.Ordering.{is_eq, is_lt, is_gt, ordering_reverse}
 use Rattle.std.specs.List.{sum_by, count_by, AllByRecursion}
+use Rattle.std.specs.List.Sorted.{IsSorted}
 use Rattle.std.specs.Cmp.{IsTotalOrder}
 use Rattle.std.proofs.lemmas.Cmp.{upto, tied_itself}
+use Rattle.std.proofs.lemmas.List.Elements.{recursion_from_All, All-from_get_or}
+use Rattle.std.proofs.lemmas.List.Sorted.{ranks_by, sorted_far}
 use Rattle.std.proofs.lemmas.List.Sums.{sum_by-cons}
 use Rattle.row_table.specs.Sorting.{insert_by, sorted_by}
 
@@ -60,7 +63,7 @@ reversed_gt Less h = cc
 reversed_gt Equal h = refl
 reversed_gt Greater h = refl
 
-tied-both : (o : Ordering) → is_gt o ≡ false → is_gt (ordering_reverse o) ≡ false → is_eq o ≡ true
+pub tied-both : (o : Ordering) → is_gt o ≡ false → is_gt (ordering_reverse o) ≡ false → is_eq o ≡ true
 tied-both Less h k = cc
 tied-both Equal h k = refl
 tied-both Greater h k = cc
@@ -69,7 +72,7 @@ module _ {X : Type 0} (order : X → X → Ordering) (total : IsTotalOrder order
   not_greater_back : (x y : X) → is_gt (order x y) ≡ true → is_gt (order y x) ≡ false
   not_greater_back x y h = ap is_gt (total.antisymm y x) ∙ reversed_gt (order x y) h
 
-  not_greater_itself : (x : X) → is_gt (order x x) ≡ false
+  pub not_greater_itself : (x : X) → is_gt (order x x) ≡ false
   not_greater_itself x = ap is_gt (tied_itself total x)
 
   ascends-insert : (x : X) (ys : List X) → Ascends order ys → Ascends order (insert_by order x ys)
@@ -141,3 +144,44 @@ module _ {X : Type 0} (order : X → X → Ordering) (total : IsTotalOrder order
       let whole : often z (x ∷ xs) ≡ often z (y ∷ ys) = alike z in
       omega arith in
       ap₂ (λ z zs. z ∷ zs) e (ascending_alike xs ys up.1 up'.1 rest)
+
+-- ---- between std's word for a sorted list and `Ascends`
+
+not_lt_reversed : (o : Ordering) → is_lt (ordering_reverse o) ≡ false → is_gt o ≡ false
+not_lt_reversed Less h = refl
+not_lt_reversed Equal h = refl
+not_lt_reversed Greater h = cc
+
+not_gt_reversed : (o : Ordering) → is_gt o ≡ false → is_lt (ordering_reverse o) ≡ false
+not_gt_reversed Less h = refl
+not_gt_reversed Equal h = refl
+not_gt_reversed Greater h = cc
+
+module _ {X : Type 0} (order : X → X → Ordering) (total : IsTotalOrder order) where
+  not_greater : (x y : X) → is_lt (order y x) ≡ false → is_gt (order x y) ≡ false
+  not_greater x y h = not_lt_reversed (order x y) (sym (ap is_lt (total.antisymm y x)) ∙ h)
+
+  not_less : (x y : X) → is_gt (order x y) ≡ false → is_lt (order y x) ≡ false
+  not_less x y h = ap is_lt (total.antisymm y x) ∙ not_gt_reversed (order x y) h
+
+  sorted_tail : (x : X) (xs : List X) → IsSorted order (x ∷ xs) → IsSorted order xs
+  sorted_tail x xs up k d low high =
+      let at : is_lt (order (get_or (x ∷ xs) (suc k + 1) d) (get_or (x ∷ xs) (suc k) d)) ≡ false = up (suc k) d (omega arith) (omega arith) in
+      rw add-one (rw add-one at at)
+
+  head_least : (x : X) (xs : List X) → IsSorted order (x ∷ xs) → AllByRecursion (λ y. is_gt (order x y) ≡ false) xs
+  head_least x xs up =
+      recursion_from_All (λ y. is_gt (order x y) ≡ false) xs (All-from_get_or (λ y. is_gt (order x y) ≡ false) xs x (λ i h.
+      not_greater x (get_or xs i x) (sorted_far (λ a b. is_lt (order a b)) (ranks_by total (λ a. a)) (x ∷ xs) up 0 (suc i) x (omega arith) (omega arith))))
+
+  pub ascends_from_sorted : (xs : List X) → IsSorted order xs → Ascends order xs
+  ascends_from_sorted [] up = tt
+  ascends_from_sorted (x ∷ xs) up = (head_least x xs up, ascends_from_sorted xs (sorted_tail x xs up))
+
+  pub sorted_from_ascends : (xs : List X) → Ascends order xs → IsSorted order xs
+  sorted_from_ascends [] up k d low high = absurd (omega arith)
+  sorted_from_ascends (x ∷ []) up k d low high = absurd (omega arith)
+  sorted_from_ascends (x ∷ y ∷ ys) up zero d low high = not_less x y up.0.0
+  sorted_from_ascends (x ∷ y ∷ ys) up (suc k) d low high =
+      let at : is_lt (order (get_or (y ∷ ys) (k + 1) d) (get_or (y ∷ ys) k d)) ≡ false = sorted_from_ascends (y ∷ ys) up.1 k d (omega arith) (omega arith) in
+      rw add-one (rw add-one at at)

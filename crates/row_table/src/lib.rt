@@ -9,7 +9,9 @@ mod table;
 
 pub use field::{Field, Schema};
 pub use join::JoinKind;
-pub use laws::{keys_different, rows_in_order, rows_sorted, tables_same, tables_shown};
+pub use laws::{
+    keys_different, rows_in_order, rows_sorted, rows_sorted_by, tables_same, tables_shown,
+};
 pub use order::{canonical, row_cmp};
 pub use table::{Mark, Row, Table};
 
