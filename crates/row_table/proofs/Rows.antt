@@ -1,5 +1,5 @@
 -- The order of rows is total and ties only equal rows; what sorting a table's rows keeps.
-use Rattle.std.proofs.Common.{◌≡◌, Bool, true, false, ◌&&◌, cond, List, [], ◌∷◌, refl, sym, ◌∙◌}
+use Rattle.std.proofs.Common.{◌≡◌, ℕ, Bool, true, false, ◌&&◌, cond, List, [], ◌∷◌, sum_by, refl, sym, ◌∙◌, ap}
 use Rattle.std.specs.declared.cmp.Ordering.{Ordering}
 use Rattle.std.specs.Bool.{Decides}
 use Rattle.std.specs.Ordering.{is_eq, is_gt}
@@ -48,6 +48,11 @@ sorted_rows_from_sort xs ys moved up = sorted_rows-only xs ys (permuted_as_often
 pub sorted_rows-alike : (xs ys : List (List Value)) → IsAsOften xs ys → sorted_rows xs ≡ sorted_rows ys
 sorted_rows-alike xs ys alike =
     sorted_rows-only ys (sorted_rows xs) (λ row. sorted_rows-as_often xs row ∙ alike row) (sorted_rows-sorted xs)
+
+-- rows that stand equally often weigh the same by every weight
+pub sum_by-as_often : (weight : List Value → ℕ) (xs ys : List (List Value)) → IsAsOften xs ys → sum_by weight xs ≡ sum_by weight ys
+sum_by-as_often weight xs ys alike =
+    sym (sum_by-sorted row_order weight xs) ∙ ap (λ rows. sum_by weight rows) (sorted_rows-alike xs ys alike) ∙ sum_by-sorted row_order weight ys
 
 -- ---- rows that fit the columns fit them when sorted
 
