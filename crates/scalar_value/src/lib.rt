@@ -7,7 +7,9 @@ mod boxed;
 mod dec6;
 mod duplicate;
 mod memory;
+mod arithmetic;
 mod seq;
+mod sizes;
 mod text;
 mod value;
 
@@ -15,6 +17,7 @@ pub use boxed::Boxed;
 pub use dec6::Dec6;
 pub use duplicate::Duplicate;
 pub use memory::{Mem, NoMemory, Or, Res};
+pub use arithmetic::{NumOp, num};
 pub use seq::Seq;
 pub use text::Text;
 pub use value::{ColType, Value, num_cmp};

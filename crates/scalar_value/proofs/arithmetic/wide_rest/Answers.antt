@@ -1,0 +1,16 @@
+use Rattle.std.proofs.Common.{refl, to_z-of_z, ap, ◌∙◌, sym}
+use Rattle.std.specs.Int.{w128}
+use Rattle.scalar_value.specs.Numbers.{as_int, as_dec}
+use Rattle.scalar_value.proofs.Division.{rest_by_size, unless_not_zero, bits_not_zero}
+use Rattle.scalar_value.proofs.arithmetic.wide_rest.Goals as goal
+
+pub returns : goal.returns
+returns c =
+    let f = c.ranges.a in
+    let g = c.ranges.b in
+    let apart = simp to_z-of_z at c.signs_differ_wide-differ.ensures in
+    let size = simp to_z-of_z at c.unsigned_abs.ensures.value in
+    let divisor = simp to_z-of_z at c.unsigned_abs-2.ensures.value in
+    let not_zero = bits_not_zero w128 c.args.b c.if-b-eq0.false in
+    let made = simp to_z-of_z at c.dec_of_size.ensures in
+    made ∙ ap as_dec (rest_by_size c.args.a c.args.b _ _ _ _ _ not_zero refl apart (c.rest_size_wide.ensures) size divisor) ∙ sym (unless_not_zero c.args.b _ not_zero)
