@@ -4,7 +4,10 @@ ghost use Rattle.scalar_value.specs.Decimals.{million};
 ghost use Rattle.scalar_value.specs.Numbers.{with_sign, half, floor_div, floor_rest, as_int, as_dec, unless_zero, on_ints, on_decs, num_value, IsNumberOrMissing, IsNoProduct};
 
 use crate::dec6::{DEC_LIMIT, Dec6};
-use crate::sizes::{floor_size, floor_size_wide, half_size, half_size_wide, rest_size, rest_size_wide, signs_differ, signs_differ_wide};
+use crate::sizes::{
+    floor_size, floor_size_wide, half_size, half_size_wide, rest_size, rest_size_wide,
+    signs_differ, signs_differ_wide,
+};
 use crate::value::Value;
 
 /// The arithmetic operators, as R writes them: `+`, `-`, `*`, `/`, `%/%` and `%%`.
@@ -110,7 +113,10 @@ fn int_floor(a: i64, b: i64) -> Value
         return Value::Missing;
     }
     let differ = signs_differ(a, b);
-    int_of_size(differ, floor_size(differ, a.unsigned_abs(), b.unsigned_abs()))
+    int_of_size(
+        differ,
+        floor_size(differ, a.unsigned_abs(), b.unsigned_abs()),
+    )
 }
 
 /// What `a / b` rounded down leaves of `a`, as a whole number.
@@ -208,7 +214,10 @@ fn wide_rest(a: i128, b: i128) -> Value
         return Value::Missing;
     }
     let differ = signs_differ_wide(a, b);
-    dec_of_size(b < 0, rest_size_wide(differ, a.unsigned_abs(), b.unsigned_abs()))
+    dec_of_size(
+        b < 0,
+        rest_size_wide(differ, a.unsigned_abs(), b.unsigned_abs()),
+    )
 }
 
 /// `a / b`, both in millionths of 128 bits.
@@ -255,7 +264,11 @@ fn int_dec_num(op: NumOp, x: i64, y: Dec6) -> Value
 {
     match op {
         NumOp::Mul => whole_product(x, y.millionths()),
-        _ => wide_num(op, i128::from(x) * i128::from(MILLION), i128::from(y.millionths())),
+        _ => wide_num(
+            op,
+            i128::from(x) * i128::from(MILLION),
+            i128::from(y.millionths()),
+        ),
     }
 }
 
@@ -265,7 +278,11 @@ fn dec_int_num(op: NumOp, x: Dec6, y: i64) -> Value
 {
     match op {
         NumOp::Mul => whole_product(x.millionths(), y),
-        _ => wide_num(op, i128::from(x.millionths()), i128::from(y) * i128::from(MILLION)),
+        _ => wide_num(
+            op,
+            i128::from(x.millionths()),
+            i128::from(y) * i128::from(MILLION),
+        ),
     }
 }
 

@@ -1,7 +1,8 @@
 ghost use Rattle.std.specs.Prelude.{◌≡◌};
 ghost use Rattle.std.specs.Option.{SomeIff};
-ghost use Rattle.scalar_value.specs.Decimals.{IsDec};
+ghost use Rattle.scalar_value.specs.Decimals.{IsDec, dec_of_text};
 
+use crate::dec_text::text_size;
 use std::marker::Model;
 
 /// The greatest number of millionths that a decimal has, in size.
@@ -36,6 +37,23 @@ impl Dec6 {
             Some(Dec6 { millionths })
         } else {
             None
+        }
+    }
+
+    /// The decimal that a text stands for: `-` or not, digits, and then a point and one to six digits or not.
+    /// None exactly where the text has another form, the empty text and `NA` among them, or the number is too large.
+    pub fn parse(s: &str) -> Option<Dec6>
+        ensures { result ≡ dec_of_text s.now }
+    {
+        match s.strip_prefix('-') {
+            Some(rest) => match text_size(rest) {
+                Some(size) => Dec6::of(-(size as i64)),
+                None => None,
+            },
+            None => match text_size(s) {
+                Some(size) => Dec6::of(size as i64),
+                None => None,
+            },
         }
     }
 

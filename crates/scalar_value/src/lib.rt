@@ -3,21 +3,22 @@
 //! `Text` is seen by contracts as its bytes, `Seq` as a list and `Boxed` as what it holds, so a copy equals its source.
 #![tactic(auto)]
 
+mod arithmetic;
 mod boxed;
 mod dec6;
+mod dec_text;
 mod duplicate;
 mod memory;
-mod arithmetic;
 mod seq;
 mod sizes;
 mod text;
 mod value;
 
+pub use arithmetic::{NumOp, num};
 pub use boxed::Boxed;
 pub use dec6::Dec6;
 pub use duplicate::Duplicate;
 pub use memory::{Mem, NoMemory, Or, Res};
-pub use arithmetic::{NumOp, num};
 pub use seq::Seq;
 pub use text::Text;
 pub use value::{ColType, Value, num_cmp};
