@@ -6,11 +6,12 @@ use Rattle.scalar_value.specs.declared.value.Value.TheVariants.{Missing, Int, De
 use Rattle.scalar_value.specs.declared.value.ColType.{ColType}
 use Rattle.scalar_value.specs.declared.value.ColType.TheVariants as type
 use Rattle.scalar_value.specs.Decimals.{million}
+use Rattle.scalar_value.specs.Truths.{is_there, is_true, is_false}
 use Rattle.scalar_value.specs.Numbers.{half, as_int, as_dec}
 use Rattle.agg_rules.specs.declared.aggregate.AggKind.{AggKind}
 use Rattle.agg_rules.specs.declared.aggregate.AggKind.TheVariants.{Count, Sum, Mean, Min, Max, Distinct, Any, All, First, Last}
 use Rattle.agg_rules.specs.declared.aggregate.AggCall.{AggCall}
-use Rattle.agg_rules.specs.Lists.{is_missing, is_there, unless_missing, summed_number, millionths_of, sum_of, foremost, each_once}
+use Rattle.agg_rules.specs.Lists.{unless_missing, summed_number, millionths_of, sum_of, foremost, each_once}
 
 -- ---- types
 
@@ -88,23 +89,6 @@ max_value vs = unless_missing vs (foremost true vs)
 -- the number of different values
 unfoldable pub distinct_value : List Value → Value
 distinct_value vs = as_int (pos (length (each_once vs)))
-
-abbrev pub is_true : Value → Bool
-is_true (Int z) = false
-is_true (Dec m) = false
-is_true (Chr t) = false
-is_true (Day d) = false
-is_true (Lgl b) = b
-is_true Missing = false
-
-abbrev pub is_false : Value → Bool
-is_false (Int z) = false
-is_false (Dec m) = false
-is_false (Chr t) = false
-is_false (Day d) = false
-is_false (Lgl true) = false
-is_false (Lgl false) = true
-is_false Missing = false
 
 -- TRUE where one is TRUE, else missing where one is missing, else FALSE
 unfoldable pub any_value : List Value → Value

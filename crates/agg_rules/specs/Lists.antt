@@ -5,18 +5,8 @@ use Rattle.std.specs.Ordering.{is_lt}
 use Rattle.scalar_value.specs.declared.value.Value.{Value}
 use Rattle.scalar_value.specs.declared.value.Value.TheVariants.{Missing, Int, Dec, Chr, Day, Lgl}
 use Rattle.scalar_value.specs.Decimals.{million}
+use Rattle.scalar_value.specs.Truths.{is_missing}
 use Rattle.scalar_value.specs.Order.{value_cmp, value_same, truth_number}
-
-abbrev pub is_missing : Value → Bool
-is_missing (Int z) = false
-is_missing (Dec m) = false
-is_missing (Chr t) = false
-is_missing (Day d) = false
-is_missing (Lgl b) = false
-is_missing Missing = true
-
-abbrev pub is_there : Value → Bool
-is_there v = not (is_missing v)
 
 -- a missing value where the list has one, else this value
 abbrev pub unless_missing : List Value → Value → Value

@@ -6,7 +6,8 @@ use Rattle.scalar_value.specs.Numbers.{as_int}
 use Rattle.scalar_value.specs.declared.value.ColType.TheVariants as type
 use Rattle.agg_rules.specs.declared.window.WindowKind.{WindowKind}
 use Rattle.agg_rules.specs.declared.window.WindowKind.TheVariants.{Agg, RowNumber, FromEnd, Lag, Lead, Cumsum, MinRank, DenseRank, Before, FillDown, FillUp, FillDownUp, FillUpDown}
-use Rattle.agg_rules.specs.Lists.{is_missing, is_there, comes_before, each_once}
+use Rattle.scalar_value.specs.Truths.{is_missing, is_there}
+use Rattle.agg_rules.specs.Lists.{comes_before, each_once}
 use Rattle.agg_rules.specs.Aggregates.{agg_of, sum_value}
 
 -- the value at a place, and a missing one where there is no row

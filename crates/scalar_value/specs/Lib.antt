@@ -4,3 +4,4 @@ pub mod Numbers
 pub mod Order
 pub mod OrderLaws
 pub mod formers
+pub mod Truths
