@@ -1,13 +1,8 @@
-// A library with one function.
+//! Row expressions with missing values: their types and their values.
 #![tactic(auto)]
 
-ghost use Rattle.std.specs.Prelude.{◌≡◌};
-ghost use Rattle.na_expr.specs.Echo.{echo_of};
+mod eval;
+mod expr;
+mod operators;
 
-// The `ensures` clause is the contract: what `echo` returns is `echo_of` of its argument, a definition
-// in `specs/Echo.antt`, which a caller's clause can cite too.
-pub fn echo(x: usize) -> usize
-    ensures { result ≡ echo_of x }
-{
-    x
-}
+pub use expr::{Expr, ExprFn, TypeFault};

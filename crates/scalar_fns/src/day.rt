@@ -56,7 +56,6 @@ pub fn wday(day: i32) -> i64
 
 /// The day so many days later, and none exactly where the years end before it or begin after it.
 pub fn day_add(day: i32, n: i64) -> Option<i32>
-    requires { is_day day ≡ true }
     ensures { result ≡ day_plus day n }
 {
     match i64::from(day).checked_add(n) {

@@ -1,0 +1,2 @@
+-- The types of expressions.
+use Rattle.std.specs.Prelude.{List}
