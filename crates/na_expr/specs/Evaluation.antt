@@ -1,6 +1,7 @@
 -- The value of an expression on a row.
 use Rattle.std.specs.Prelude.{ℕ, nat_eq, List, [], ◌∷◌, map, slice_get, unwrap_or, Bool, true, false}
 use Rattle.std.specs.List.{starts_with, ends_with}
+use Rattle.std.specs.declared.cmp.Ordering.{Ordering}
 use Rattle.std.specs.Ordering.{is_eq, is_ne, is_lt, is_le, is_gt, is_ge}
 use Rattle.std.specs.Char.{to_ascii_uppercase, to_ascii_lowercase}
 use Rattle.scalar_value.specs.declared.value.Value.{Value}
@@ -41,6 +42,38 @@ takes_list (CaseWhen t) = true
 takes_list (Coalesce t) = true
 takes_list Paste0 = true
 takes_list f = false
+
+-- whether a function is of one text
+abbrev pub is_text_function : ExprFn → Bool
+is_text_function NChar = true
+is_text_function ToUpper = true
+is_text_function ToLower = true
+is_text_function f = false
+
+-- whether a function is a test on two texts
+abbrev pub is_text_test : ExprFn → Bool
+is_text_test StartsWith = true
+is_text_test EndsWith = true
+is_text_test f = false
+
+-- whether a function is a comparison, and for which orders it is TRUE
+abbrev pub is_comparison : ExprFn → Bool
+is_comparison Eq = true
+is_comparison Ne = true
+is_comparison Lt = true
+is_comparison Le = true
+is_comparison Gt = true
+is_comparison Ge = true
+is_comparison f = false
+
+abbrev pub test_of : ExprFn → Ordering → Bool
+test_of Eq = is_eq
+test_of Ne = is_ne
+test_of Lt = is_lt
+test_of Le = is_le
+test_of Gt = is_gt
+test_of Ge = is_ge
+test_of f = λ o. false
 
 -- whether a function gives a part of a day
 abbrev pub is_day_part : ExprFn → Bool
