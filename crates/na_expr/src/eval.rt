@@ -1,9 +1,11 @@
-ghost use Rattle.std.specs.Prelude.{◌≡◌, List, [], ◌∷◌, ◌++◌, map, pos, IfOk, OnOk, true, false};
+ghost use Rattle.std.specs.Prelude.{◌≡◌, List, [], ◌∷◌, ◌++◌, map, drop, unwrap_or, slice_get, pos, IfOk, OnOk, true, false};
+ghost use Rattle.std.specs.List.{list_any};
+ghost use Rattle.scalar_value.specs.Truths.{is_true as true_value};
 ghost use Rattle.na_expr.specs.Evaluation.{val, call_value, takes_list as is_list_function, is_day_part, is_text_function, is_text_test, is_comparison, test_of};
 
 ghost use Rattle.scalar_value.specs.Numbers.{as_int};
 ghost use Rattle.scalar_fns.specs.Written.{written};
-ghost use Rattle.na_expr.specs.Operators.{in_calendar, compared, between, chosen, part_of, to_text as text_value};
+ghost use Rattle.na_expr.specs.Operators.{in_calendar, is_same as same, among, first_case, first_there, pasted, carried as carried_value, compared, between, chosen, part_of, to_text as text_value};
 
 use crate::expr::{Expr, ExprFn};
 use crate::operators::{absolute, added, both_true, carried, either_true, is_calendar_day, is_false, is_missing, is_same, is_true, is_value, negated, negation, on_numbers, order, taken_away, to_decimal, to_integer};
@@ -12,16 +14,6 @@ use scalar_fns::{chars, day_of, lower, month, substr, upper, wday, write_value, 
 use scalar_value::{ColType, Mem, NumOp, Text, Value};
 use std::alloc::Global;
 use std::cmp::Ordering;
-
-/// Whether a function takes a list of any length.
-fn takes_list(function: ExprFn) -> bool
-    ensures { result ≡ is_list_function function }
-{
-    matches!(
-        function,
-        ExprFn::IsIn | ExprFn::CaseWhen(_) | ExprFn::Coalesce(_) | ExprFn::Paste0
-    )
-}
 
 /// The text of a value, where a day that the calendar does not have counts as missing.
 fn push_value(v: &Value, out: &mut Text) -> Mem<()>
@@ -219,4 +211,148 @@ fn three(alloc: Global, function: ExprFn, a: Value, b: Value, c: Value) -> Mem<V
         ExprFn::Substr => part_of_text(alloc, &a, &b, &c),
         _ => Ok(Value::Missing),
     }
+}
+
+/// The value of a column, and a missing value where there is none.
+fn column_value(row: &Row, at: u32) -> Mem<Value>
+    ensures { IfOk result (λ v. v ≡ unwrap_or (slice_get row.now at) Value.Missing) }
+{
+    match row.get(at as usize) {
+        Some(value) => value.copy(),
+        None => Ok(Value::Missing),
+    }
+}
+
+#[cycle(eval)]
+/// The value of an expression on a row. Where no memory is left for a text it answers so; else it always gives a value:
+/// a part of another type than its operator takes, and a column that is not there, count as missing.
+pub fn eval_row(alloc: Global, e: &Expr, row: &Row) -> Mem<Value>
+    ensures { IfOk result (λ v. v ≡ val row.now e.now) }
+{
+    match e {
+        Expr::Col(at) => column_value(row, *at),
+        Expr::Lit(value, _) => value.copy(),
+        Expr::Call(function, args) => eval_args(alloc, *function, args.as_slice(), row),
+    }
+}
+
+#[cycle(eval)]
+/// The value of a call.
+fn eval_args(alloc: Global, function: ExprFn, args: &[Expr], row: &Row) -> Mem<Value>
+    ensures { IfOk result (λ v. v ≡ call_value function (map (val row.now) args.now)) }
+{
+    match function {
+        ExprFn::IsIn => eval_in(alloc, args, row),
+        ExprFn::CaseWhen(kind) => eval_cases(alloc, kind, args, row),
+        ExprFn::Coalesce(kind) => eval_coalesce(alloc, kind, args, row),
+        ExprFn::Paste0 => eval_paste(alloc, args, row),
+        _ => eval_call(alloc, function, args, row),
+    }
+}
+
+#[cycle(eval)]
+/// The value of a call of a function of one to three values.
+fn eval_call(alloc: Global, function: ExprFn, args: &[Expr], row: &Row) -> Mem<Value>
+    requires { is_list_function function ≡ false }
+    ensures { IfOk result (λ v. v ≡ call_value function (map (val row.now) args.now)) }
+{
+    match args {
+        [a] => {
+            let a = eval_row(alloc, a, row)?;
+            one(alloc, function, &a)
+        }
+        [a, b] => {
+            let (a, b) = (eval_row(alloc, a, row)?, eval_row(alloc, b, row)?);
+            Ok(two(function, &a, &b))
+        }
+        [a, b, c] => {
+            let (a, b) = (eval_row(alloc, a, row)?, eval_row(alloc, b, row)?);
+            three(alloc, function, a, b, eval_row(alloc, c, row)?)
+        }
+        [] => Ok(Value::Missing),
+        [_, _, _, _, ..] => Ok(Value::Missing),
+    }
+}
+
+#[cycle(eval)]
+/// Whether one of the literals behind the first argument equals it.
+fn eval_in(alloc: Global, args: &[Expr], row: &Row) -> Mem<Value>
+    ensures { IfOk result (λ v. v ≡ among (map (val row.now) args.now)) }
+{
+    if args.is_empty() {
+        return Ok(Value::Lgl(false));
+    }
+    let x = eval_row(alloc, &args[0], row)?;
+    Ok(Value::Lgl(has_same(alloc, &x, args, row)?))
+}
+
+#[cycle(eval)]
+/// Whether one of the expressions behind the first has this value.
+fn has_same(alloc: Global, x: &Value, args: &[Expr], row: &Row) -> Mem<bool>
+    ensures { IfOk result (λ b. b ≡ list_any (same x.now) (map (val row.now) (drop 1 args.now))) }
+{
+    for at in 1..args.len() {
+        if is_equal(alloc, x, &args[at], row)? {
+            return Ok(true);
+        }
+    }
+    Ok(false)
+}
+
+#[cycle(eval)]
+/// Whether an expression has this value.
+fn is_equal(alloc: Global, x: &Value, literal: &Expr, row: &Row) -> Mem<bool>
+    ensures { IfOk result (λ b. b ≡ same x.now (val row.now literal.now)) }
+{
+    Ok(is_same(x, &eval_row(alloc, literal, row)?))
+}
+
+#[cycle(eval)]
+/// Whether a condition is TRUE.
+fn holds(alloc: Global, condition: &Expr, row: &Row) -> Mem<bool>
+    ensures { IfOk result (λ b. b ≡ true_value (val row.now condition.now)) }
+{
+    Ok(is_true(&eval_row(alloc, condition, row)?))
+}
+
+#[cycle(eval)]
+/// The value behind the first condition that is TRUE, else the default.
+fn eval_cases(alloc: Global, kind: ColType, args: &[Expr], row: &Row) -> Mem<Value>
+    ensures { IfOk result (λ v. v ≡ first_case kind (map (val row.now) args.now)) }
+{
+    for at in 0..args.len() / 2 {
+        if holds(alloc, &args[2 * at], row)? {
+            return Ok(carried(kind, eval_row(alloc, &args[2 * at + 1], row)?));
+        }
+    }
+    if args.len() % 2 == 0 {
+        return Ok(Value::Missing);
+    }
+    Ok(carried(kind, eval_row(alloc, &args[args.len() - 1], row)?))
+}
+
+#[cycle(eval)]
+/// The first value that is not missing.
+fn eval_coalesce(alloc: Global, kind: ColType, args: &[Expr], row: &Row) -> Mem<Value>
+    ensures { IfOk result (λ v. v ≡ carried_value kind (first_there (map (val row.now) args.now))) }
+{
+    for arg in args {
+        let value = eval_row(alloc, arg, row)?;
+        if !is_missing(&value) {
+            return Ok(carried(kind, value));
+        }
+    }
+    Ok(carried(kind, Value::Missing))
+}
+
+#[cycle(eval)]
+/// The value texts one behind the other.
+fn eval_paste(alloc: Global, args: &[Expr], row: &Row) -> Mem<Value>
+    ensures { IfOk result (λ v. v ≡ pasted (map (val row.now) args.now)) }
+{
+    let mut text = Text::empty(alloc);
+    for arg in args {
+        push_value(&eval_row(alloc, arg, row)?, &mut text)?;
+    }
+    Ok(Value::Chr(text))
 }

@@ -5,4 +5,5 @@ mod eval;
 mod expr;
 mod operators;
 
+pub use eval::eval_row;
 pub use expr::{Expr, ExprFn, TypeFault};
