@@ -20,7 +20,7 @@ unless_not_zero (pos zero) v h = absurd (h refl)
 unless_not_zero (pos (suc n)) v h = refl
 unless_not_zero (negsuc n) v h = refl
 
-not_zero : (b : ℕ) → pos b ≢ pos 0 → 0 < b
+pub not_zero : (b : ℕ) → pos b ≢ pos 0 → 0 < b
 not_zero zero h = absurd (h refl)
 not_zero (suc b) h = omega arith
 
@@ -100,11 +100,11 @@ unfolding half
 half_whole (pos n) = ap pos (half_size_whole n 1000000 (lit< tt))
 half_whole (negsuc n) = half_negative (suc n * 1000000) ∙ ap (λ (m : ℕ). neg_ℤ (pos m)) (half_size_whole (suc n) 1000000 (lit< tt))
 
-neg_times_pos : (p q : ℕ) → neg_ℤ (pos p) *ℤ pos q ≡ neg_ℤ (pos (p * q))
+pub neg_times_pos : (p q : ℕ) → neg_ℤ (pos p) *ℤ pos q ≡ neg_ℤ (pos (p * q))
 neg_times_pos zero q = omega (arith, ints)
 neg_times_pos (suc p) q = refl
 
-neg_times_neg : (p q : ℕ) → neg_ℤ (pos p) *ℤ negsuc q ≡ pos (p * suc q)
+pub neg_times_neg : (p q : ℕ) → neg_ℤ (pos p) *ℤ negsuc q ≡ pos (p * suc q)
 neg_times_neg zero q = omega (arith, ints)
 neg_times_neg (suc p) q = refl
 

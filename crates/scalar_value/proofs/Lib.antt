@@ -1,3 +1,4 @@
 pub mod Ranges
 pub mod Division
 pub mod Digits
+pub mod Rounding

@@ -1,5 +1,5 @@
 -- Arithmetic on whole numbers and decimals: exact results, rounded once, and a missing value where the result leaves its range.
-use Rattle.std.specs.Prelude.{ℕ, zero, suc, ◌+◌, ◌-◌, ◌*◌, ◌/◌, ◌%◌, ◌^◌, ◌==◌, ℤ, pos, negsuc, neg_ℤ, ◌+ℤ◌, ◌-ℤ◌, ◌*ℤ◌, unsigned_abs, int_lt, int_le, nat_lt, Bool, true, false, cond, ◌&&◌, not, if◌then◌else◌}
+use Rattle.std.specs.Prelude.{◌≡◌, ◌≢◌, ◌⊎◌, ◌<◌, ◌≤◌, ◌≤ℤ◌, ◌<ℤ◌, ℕ, zero, suc, ◌+◌, ◌-◌, ◌*◌, ◌/◌, ◌%◌, ◌^◌, ◌==◌, ℤ, pos, negsuc, neg_ℤ, ◌+ℤ◌, ◌-ℤ◌, ◌*ℤ◌, unsigned_abs, int_lt, int_le, nat_lt, Bool, true, false, cond, ◌&&◌, not, if◌then◌else◌}
 use Rattle.std.specs.Bool.{beq}
 use Rattle.std.specs.Int.{div_ceil}
 use Rattle.scalar_value.specs.declared.value.Value.{Value}
@@ -117,3 +117,26 @@ IsNoProduct Mul = ⊥
 IsNoProduct op.Div = Unit {0}
 IsNoProduct FloorDiv = Unit {0}
 IsNoProduct Mod = Unit {0}
+
+-- ---- what rounding means
+
+-- how far so many times the divisor is from a number
+abbrev pub gap_of : ℤ → ℤ → ℤ → ℕ
+gap_of a b q = unsigned_abs (a -ℤ q *ℤ b)
+
+-- q is a whole number nearest to a / b: it is at most half a divisor away; where it is just that far, as another one is too,
+-- it lies farther from zero than a / b
+abbrev pub IsNearest : ℤ → ℤ → ℤ → Type 0
+IsNearest a b q = (2 * gap_of a b q ≤ unsigned_abs b) × (2 * gap_of a b q ≡ unsigned_abs b → unsigned_abs a < unsigned_abs q * unsigned_abs b)
+
+-- what is left of a is not negative and below the divisor, or not positive and above it where the divisor is negative
+abbrev pub IsRoundedDown : ℤ → ℤ → ℤ → Type 0
+IsRoundedDown a b q =
+    ((pos 0 ≤ℤ (a -ℤ b *ℤ q)) × ((a -ℤ b *ℤ q) <ℤ b)) ⊎ (((a -ℤ b *ℤ q) ≤ℤ pos 0) × (b <ℤ (a -ℤ b *ℤ q)))
+
+-- the laws of the two roundings
+abbrev pub HalfIsNearest : Type 0
+HalfIsNearest = (a b : ℤ) → b ≢ pos 0 → IsNearest a b (half a b)
+
+abbrev pub FloorIsRoundedDown : Type 0
+FloorIsRoundedDown = (a b : ℤ) → b ≢ pos 0 → IsRoundedDown a b (floor_div a b)

@@ -1,7 +1,7 @@
 ghost use Rattle.std.specs.Prelude.{◌≤◌, ◌^◌, ◌≡◌, ◌≢◌, ◌<◌, ◌*ℤ◌, pos, unsigned_abs};
 ghost use Rattle.std.specs.Option.{option_map_or};
 ghost use Rattle.scalar_value.specs.Decimals.{million};
-ghost use Rattle.scalar_value.specs.Numbers.{with_sign, half, floor_div, floor_rest, as_int, as_dec, unless_zero, on_ints, on_decs, num_value, IsNumberOrMissing, IsNoProduct};
+ghost use Rattle.scalar_value.specs.Numbers.{with_sign, half, floor_div, floor_rest, as_int, as_dec, unless_zero, on_ints, on_decs, num_value, IsNumberOrMissing, IsNoProduct, HalfIsNearest, FloorIsRoundedDown};
 
 use crate::dec6::{DEC_LIMIT, Dec6};
 use crate::sizes::{
@@ -303,3 +303,10 @@ pub fn num(op: NumOp, a: &Value, b: &Value) -> Value
         _ => Value::Missing,
     }
 }
+
+/// The laws of the two roundings: `half` gives a nearest whole number, of two equally near ones the one farther from zero,
+/// and `floor_div` is rounded down.
+pub fn rounding_laws()
+    ensures nearest { HalfIsNearest }
+    ensures down { FloorIsRoundedDown }
+{}

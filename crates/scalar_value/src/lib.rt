@@ -14,7 +14,7 @@ mod sizes;
 mod text;
 mod value;
 
-pub use arithmetic::{NumOp, num};
+pub use arithmetic::{NumOp, num, rounding_laws};
 pub use boxed::Boxed;
 pub use dec6::Dec6;
 pub use duplicate::Duplicate;
@@ -22,3 +22,6 @@ pub use memory::{Mem, NoMemory, Or, Res};
 pub use seq::Seq;
 pub use text::Text;
 pub use value::{ColType, Value, num_cmp};
+
+#[cfg(test)]
+mod tests;

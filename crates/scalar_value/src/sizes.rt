@@ -36,7 +36,7 @@ pub fn half_size_wide(a: u128, b: u128) -> u128
     ensures { result ≡ nearest a b }
 {
     let rest = a % b;
-    if rest < b - rest { a / b } else { a / b + 1 }
+    if b - rest <= rest { a / b + 1 } else { a / b }
 }
 
 /// `floor_size` at 128 bits.
@@ -45,7 +45,7 @@ pub fn floor_size_wide(differ: bool, a: u128, b: u128) -> u128
     requires small { a ≤ 2 ^ 127 }
     ensures { result ≡ rounded_down differ a b }
 {
-    if differ { a.div_ceil(b) } else { a / b }
+    if !differ { a / b } else { a.div_ceil(b) }
 }
 
 /// `rest_size` at 128 bits.
