@@ -6,3 +6,6 @@ mod window;
 
 pub use aggregate::{AggCall, AggKind, agg_type};
 pub use window::WindowKind;
+
+#[cfg(test)]
+mod tests;

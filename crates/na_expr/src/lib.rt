@@ -4,6 +4,7 @@
 mod eval;
 mod expr;
 mod operators;
+mod types;
 
 pub use eval::eval_row;
 pub use expr::{Expr, ExprFn, TypeFault};

@@ -8,3 +8,6 @@ mod written;
 pub use day::{day_add, day_of, month, read_day, wday, year};
 pub use texts::{chars, lower, substr, upper};
 pub use written::write_value;
+
+#[cfg(test)]
+mod tests;
