@@ -14,7 +14,6 @@ use Rattle.na_expr.specs.declared.expr.Expr.{Expr}
 use Rattle.na_expr.specs.declared.expr.Expr.TheOpen.{Expr-F, Col, Lit, Call}
 use Rattle.na_expr.specs.declared.expr.Expr.TheFolds.{fold-Expr}
 
-
 -- the type on which two types agree: equal types, and a whole number and a decimal on a decimal
 abbrev pub joined : ColType → ColType → Option ColType
 joined Int Int = Some Int
@@ -322,14 +321,15 @@ substr_type v a b = if is_kind v Chr && (is_kind a Int && is_kind b Int) then So
 
 -- ---- lists of any length
 
--- the type on which the types so far agree with one more
-abbrev pub joining : Option ColType → ColType → Option ColType
-joining None t = None
-joining (Some u) t = joined u t
+-- the type on which the types so far agree with one more; there may be no type so far, or none on which they agree
+abbrev pub joining : Option (Option ColType) → ColType → Option (Option ColType)
+joining None t = Some (Some t)
+joining (Some None) t = Some None
+joining (Some (Some u)) t = Some (joined u t)
 
--- the type on which all types of a list agree
-abbrev pub agreed : ColType → List ColType → Option ColType
-agreed t ts = fold joining (Some t) ts
+-- the type on which all types of a list agree; nothing of the empty list
+abbrev pub agreed : List ColType → Option (Option ColType)
+agreed ts = fold joining None ts
 
 -- ---- each operator and function
 
@@ -356,25 +356,22 @@ of_three f (a ∷ b ∷ []) = Err WrongArguments
 of_three f (a ∷ b ∷ c ∷ []) = or_wrong_type (f a b c)
 of_three f (a ∷ b ∷ c ∷ d ∷ ts) = Err WrongArguments
 
+-- a type by the one on which all arguments agree; at least one argument is needed
+abbrev pub by_agreement : (Option ColType → Option ColType) → Option (Option ColType) → Result ColType TypeFault
+by_agreement rule None = Err WrongArguments
+by_agreement rule (Some t) = or_wrong_type (rule t)
+
 -- `x %in% c(..)`: x and the literals agree
 abbrev pub among_type : List ColType → Result ColType TypeFault
-among_type [] = Err WrongArguments
-among_type (t ∷ ts) = or_wrong_type (then_test (agreed t ts))
+among_type ts = by_agreement then_test (agreed ts)
 
--- `coalesce(a, ..)`: at least one, and all agree on the type that it carries
+-- `coalesce(a, ..)`: all agree on the type that it carries
 abbrev pub coalesce_type : ColType → List ColType → Result ColType TypeFault
-coalesce_type kind [] = Err WrongArguments
-coalesce_type kind (t ∷ ts) = or_wrong_type (carried_type kind (agreed t ts))
+coalesce_type kind ts = by_agreement (carried_type kind) (agreed ts)
 
--- `paste0(a, ..)`: at least one, of any types
+-- `paste0(a, ..)`: of any types
 abbrev pub paste_type : List ColType → Result ColType TypeFault
-paste_type [] = Err WrongArguments
-paste_type (t ∷ ts) = Ok Chr
-
--- the same where no type may have come so far
-abbrev pub joining_more : Option (Option ColType) → ColType → Option (Option ColType)
-joining_more None t = Some (Some t)
-joining_more (Some u) t = Some (joining u t)
+paste_type ts = by_agreement (λ t. Some Chr) (agreed ts)
 
 -- the conditions of a `case_when`, each before its value, and its values with the default
 abbrev pub conditions_of : List ColType → List ColType
@@ -387,12 +384,24 @@ values_of [] = []
 values_of (d ∷ []) = d ∷ []
 values_of (c ∷ v ∷ ts) = v ∷ values_of ts
 
+abbrev pub are_truths : List ColType → Bool
+are_truths ts = list_all (λ t. is_kind t Lgl) ts
+
+-- the type of a `case_when` by whether its conditions are truth values and by the type on which its values agree
+abbrev pub case_outcome : ColType → Bool → Option (Option ColType) → Result ColType TypeFault
+case_outcome kind truths values = if truths then by_agreement (carried_type kind) values else Err WrongType
+
 -- `case_when(c ~ v, .., .default = d)`: conditions are truth values, and the values agree on the type that it carries
 abbrev pub case_type : ColType → List ColType → Result ColType TypeFault
 case_type kind [] = Err WrongArguments
 case_type kind (d ∷ []) = Err WrongArguments
 case_type kind (c ∷ v ∷ ts) =
-    or_wrong_type (if list_all (λ t. is_kind t Lgl) (c ∷ conditions_of ts) then carried_type kind (agreed v (values_of ts)) else None)
+    case_outcome kind (are_truths (conditions_of (c ∷ v ∷ ts))) (agreed (values_of (c ∷ v ∷ ts)))
+
+-- what is seen of a list of conditions and values: whether its conditions are truth values, and on which type its values agree,
+-- after such facts of what stands before it
+abbrev pub case_seen : Bool → Option (Option ColType) → List ColType → Bool × Option (Option ColType)
+case_seen truths values ts = (truths && are_truths (conditions_of ts), fold joining values (values_of ts))
 
 -- what each operator and function takes, and what it gives
 abbrev pub takes : ExprFn → List ColType → Result ColType TypeFault

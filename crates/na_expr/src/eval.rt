@@ -2,13 +2,16 @@ ghost use Rattle.std.specs.Prelude.{◌≡◌, List, [], ◌∷◌, ◌++◌, ma
 ghost use Rattle.std.specs.List.{list_any};
 ghost use Rattle.scalar_value.specs.Truths.{is_true as true_value};
 ghost use Rattle.na_expr.specs.Evaluation.{val, call_value, takes_list as is_list_function, is_day_part, is_text_function, is_text_test, is_comparison, test_of};
-
 ghost use Rattle.scalar_value.specs.Numbers.{as_int};
 ghost use Rattle.scalar_fns.specs.Written.{written};
 ghost use Rattle.na_expr.specs.Operators.{in_calendar, is_same as same, among, first_case, first_there, pasted, carried as carried_value, compared, between, chosen, part_of, to_text as text_value};
 
 use crate::expr::{Expr, ExprFn};
-use crate::operators::{absolute, added, both_true, carried, either_true, is_calendar_day, is_false, is_missing, is_same, is_true, is_value, negated, negation, on_numbers, order, taken_away, to_decimal, to_integer};
+use crate::operators::{
+    absolute, added, both_true, carried, either_true, is_calendar_day, is_false, is_missing,
+    is_same, is_true, is_value, negated, negation, on_numbers, order, taken_away, to_decimal,
+    to_integer,
+};
 use row_table::Row;
 use scalar_fns::{chars, day_of, lower, month, substr, upper, wday, write_value, year};
 use scalar_value::{ColType, Mem, NumOp, Text, Value};
@@ -137,8 +140,14 @@ fn text_test(function: ExprFn, text: &Text, part: &Text) -> Value
     ensures { result ≡ call_value function (Value.Chr text.now ∷ Value.Chr part.now ∷ []) }
 {
     match function {
-        ExprFn::StartsWith => Value::Lgl(text.as_str().as_bytes().starts_with(part.as_str().as_bytes())),
-        ExprFn::EndsWith => Value::Lgl(text.as_str().as_bytes().ends_with(part.as_str().as_bytes())),
+        ExprFn::StartsWith => Value::Lgl(
+            text.as_str()
+                .as_bytes()
+                .starts_with(part.as_str().as_bytes()),
+        ),
+        ExprFn::EndsWith => Value::Lgl(
+            text.as_str().as_bytes().ends_with(part.as_str().as_bytes()),
+        ),
         _ => unreachable!(),
     }
 }

@@ -8,3 +8,4 @@ mod types;
 
 pub use eval::eval_row;
 pub use expr::{Expr, ExprFn, TypeFault};
+pub use types::type_of;

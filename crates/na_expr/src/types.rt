@@ -1,7 +1,7 @@
-ghost use Rattle.std.specs.Prelude.{◌≡◌, [], ◌∷◌, false, Some, None, if◌then◌else◌};
+ghost use Rattle.std.specs.Prelude.{◌≡◌, [], ◌∷◌, ◌&&◌, map, false, true, Some, None, Ok, Err, slice_get, if◌then◌else◌};
 ghost use Rattle.scalar_value.specs.Order.{is_of_type};
 ghost use Rattle.na_expr.specs.Evaluation.{takes_list as is_list_function};
-ghost use Rattle.na_expr.specs.Types.{joined as joined_type, joining, joining_more, is_kind as same_kind, takes, typed, all_of, then_all, column_type as type_of_column, call_type, or_wrong_type, signed_type, number_type, then_test, carried_type};
+ghost use Rattle.na_expr.specs.Types.{joined as joined_type, joining, agreed, among_type, coalesce_type, paste_type, case_type, case_seen, case_outcome, is_kind as same_kind, takes, typed, all_of, then_all, column_type as type_of_column, call_type, or_wrong_type, signed_type, number_type, then_test, carried_type};
 
 use crate::expr::{Expr, ExprFn, TypeFault};
 use row_table::Schema;
@@ -34,12 +34,13 @@ fn joined(a: ColType, b: ColType) -> Option<ColType>
 }
 
 /// The type on which those so far and one more agree.
-fn join(so_far: Option<ColType>, kind: ColType) -> Option<ColType>
+fn join(so_far: Option<Option<ColType>>, kind: ColType) -> Option<Option<ColType>>
     ensures { result ≡ joining so_far kind }
 {
     match so_far {
-        Some(before) => joined(before, kind),
-        None => None,
+        Some(Some(before)) => Some(joined(before, kind)),
+        Some(None) => Some(None),
+        None => Some(Some(kind)),
     }
 }
 
@@ -184,5 +185,159 @@ fn three_type(function: ExprFn, a: ColType, b: ColType, c: ColType) -> Result<Co
             _ => Err(TypeFault::WrongType),
         },
         _ => Err(TypeFault::WrongArguments),
+    }
+}
+
+/// The type of a column.
+fn column_type(schema: &Schema, at: u32) -> Result<ColType, TypeFault>
+    ensures { result ≡ type_of_column (slice_get schema.now at) }
+{
+    match schema.get(at as usize) {
+        Some(field) => Ok(field.kind),
+        None => Err(TypeFault::UnknownColumn),
+    }
+}
+
+#[cycle(typing)]
+/// The type of an expression over these columns, or its first fault: those of inner parts before those of outer ones,
+/// and from the left.
+pub fn type_of(e: &Expr, schema: &Schema) -> Result<ColType, TypeFault>
+    ensures { result ≡ typed schema.now e.now }
+{
+    match e {
+        Expr::Col(at) => column_type(schema, *at),
+        Expr::Lit(value, kind) => literal_type(*kind, value),
+        Expr::Call(function, args) => type_of_args(*function, args.as_slice(), schema),
+    }
+}
+
+/// The type of a literal, of which its value is.
+fn literal_type(kind: ColType, value: &Value) -> Result<ColType, TypeFault>
+    ensures { result ≡ (if is_of_type kind value.now then Ok kind else Err TypeFault.WrongType) }
+{
+    if fits(kind, value) {
+        Ok(kind)
+    } else {
+        Err(TypeFault::WrongType)
+    }
+}
+
+#[cycle(typing)]
+/// The type of a call.
+fn type_of_args(function: ExprFn, args: &[Expr], schema: &Schema) -> Result<ColType, TypeFault>
+    ensures { result ≡ call_type (takes function) (all_of (map (typed schema.now) args.now)) }
+{
+    match function {
+        ExprFn::IsIn => match agreement(args, schema)? {
+            Some(kind) => test_of(kind),
+            None => Err(TypeFault::WrongArguments),
+        },
+        ExprFn::Coalesce(carries) => match agreement(args, schema)? {
+            Some(kind) => carried(carries, kind),
+            None => Err(TypeFault::WrongArguments),
+        },
+        ExprFn::Paste0 => match agreement(args, schema)? {
+            Some(_) => Ok(ColType::Chr),
+            None => Err(TypeFault::WrongArguments),
+        },
+        ExprFn::CaseWhen(carries) => type_of_cases(carries, args, schema),
+        _ => type_of_call(function, args, schema),
+    }
+}
+
+#[cycle(typing)]
+/// The type of a call of a function of one to three values.
+fn type_of_call(function: ExprFn, args: &[Expr], schema: &Schema) -> Result<ColType, TypeFault>
+    requires { is_list_function function ≡ false }
+    ensures { result ≡ call_type (takes function) (all_of (map (typed schema.now) args.now)) }
+{
+    match args {
+        [a] => one_type(function, type_of(a, schema)?),
+        [a, b] => {
+            let a = type_of(a, schema)?;
+            two_type(function, a, type_of(b, schema)?)
+        }
+        [a, b, c] => {
+            let (a, b) = (type_of(a, schema)?, type_of(b, schema)?);
+            three_type(function, a, b, type_of(c, schema)?)
+        }
+        [] => Err(TypeFault::WrongArguments),
+        [_, _, _, _, ..] => {
+            agreement(args, schema)?;
+            Err(TypeFault::WrongArguments)
+        }
+    }
+}
+
+#[cycle(typing)]
+/// The type on which all arguments agree, or the first fault of one.
+fn agreement(args: &[Expr], schema: &Schema) -> Result<Option<Option<ColType>>, TypeFault>
+    ensures { result ≡ then_all agreed (all_of (map (typed schema.now) args.now)) }
+{
+    let mut so_far = None;
+    for arg in args {
+        so_far = join(so_far, type_of(arg, schema)?);
+    }
+    Ok(so_far)
+}
+
+/// Whether the conditions so far and one more are truth values.
+fn still_truths(truths: bool, kind: ColType) -> bool
+    ensures { result ≡ (truths && same_kind kind ColType.Lgl) }
+{
+    truths && matches!(kind, ColType::Lgl)
+}
+
+#[cycle(typing)]
+/// Whether the conditions of a `case_when` are truth values, and the type on which its values agree.
+fn case_parts(args: &[Expr], schema: &Schema) -> Result<(bool, Option<Option<ColType>>), TypeFault>
+    ensures { result ≡ then_all (case_seen true None) (all_of (map (typed schema.now) args.now)) }
+{
+    let (mut truths, mut values) = (true, None);
+    for at in 0..args.len() / 2 {
+        let condition = type_of(&args[2 * at], schema)?;
+        let value = type_of(&args[2 * at + 1], schema)?;
+        truths = still_truths(truths, condition);
+        values = join(values, value);
+    }
+    if args.len() % 2 == 0 {
+        return Ok((truths, values));
+    }
+    let default = type_of(&args[args.len() - 1], schema)?;
+    Ok((truths, join(values, default)))
+}
+
+/// The type of a `case_when` by its parts.
+fn outcome(
+    carries: ColType,
+    truths: bool,
+    values: Option<Option<ColType>>,
+) -> Result<ColType, TypeFault>
+    ensures { result ≡ case_outcome carries truths values }
+{
+    if !truths {
+        return Err(TypeFault::WrongType);
+    }
+    match values {
+        Some(kind) => carried(carries, kind),
+        None => Err(TypeFault::WrongArguments),
+    }
+}
+
+#[cycle(typing)]
+/// The type of a `case_when`.
+fn type_of_cases(carries: ColType, args: &[Expr], schema: &Schema) -> Result<ColType, TypeFault>
+    ensures { result ≡ call_type (case_type carries) (all_of (map (typed schema.now) args.now)) }
+{
+    match args {
+        [] => Err(TypeFault::WrongArguments),
+        [default] => {
+            type_of(default, schema)?;
+            Err(TypeFault::WrongArguments)
+        }
+        [_, _, ..] => {
+            let (truths, values) = case_parts(args, schema)?;
+            outcome(carries, truths, values)
+        }
     }
 }
