@@ -9,3 +9,6 @@ mod types;
 pub use eval::eval_row;
 pub use expr::{Expr, ExprFn, TypeFault};
 pub use types::type_of;
+
+#[cfg(test)]
+mod tests;
