@@ -54,7 +54,14 @@ fn parts_of_days(rt: HostRuntime) {
 #[test]
 fn texts(rt: HostRuntime) -> Result<(), Fail> {
     let text = "aé€b";
-    let rows = [(2, 3, "é€"), (0, 2, "aé"), (-5, 1, "a"), (3, 99, "€b"), (5, 9, ""), (3, 2, "")];
+    let rows = [
+        (2, 3, "é€"),
+        (0, 2, "aé"),
+        (-5, 1, "a"),
+        (3, 99, "€b"),
+        (5, 9, ""),
+        (3, 2, ""),
+    ];
     for (from, to, expected) in rows {
         assert_eq!(rt; substr(text, from, to), expected, "{from} {to}");
     }
