@@ -1,0 +1,11 @@
+//! The rules of aggregates and window values: their types, and their values as statements on whole lists.
+#![tactic(auto)]
+
+mod aggregate;
+mod window;
+
+pub use aggregate::{AggCall, AggKind, agg_type};
+pub use window::WindowKind;
+
+#[cfg(test)]
+mod tests;

@@ -1,0 +1,14 @@
+//! Row expressions with missing values: their types and their values.
+#![tactic(auto)]
+
+mod eval;
+mod expr;
+mod operators;
+mod types;
+
+pub use eval::eval_row;
+pub use expr::{Expr, ExprFn, TypeFault};
+pub use types::type_of;
+
+#[cfg(test)]
+mod tests;

@@ -1,0 +1,13 @@
+//! Functions on days and texts, and the text of a value.
+#![tactic(auto)]
+
+mod day;
+mod texts;
+mod written;
+
+pub use day::{day_add, day_of, month, read_day, wday, year};
+pub use texts::{chars, lower, substr, upper};
+pub use written::write_value;
+
+#[cfg(test)]
+mod tests;
