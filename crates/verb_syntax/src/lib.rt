@@ -1,0 +1,6 @@
+//! The grammar of scripts: the syntax tree of a list of tokens, or the first fault.
+#![tactic(auto)]
+
+mod tree;
+
+pub use tree::{Arg, Call, Pipe, Script, SyntaxFault, SyntaxKind, Term, TermKind};
