@@ -1,6 +1,10 @@
 //! The grammar of scripts: the syntax tree of a list of tokens, or the first fault.
 #![tactic(auto)]
 
+mod frame;
+mod rule;
+mod state;
+mod step;
 mod tree;
 
 pub use tree::{Arg, Call, Pipe, Script, SyntaxFault, SyntaxKind, Term, TermKind};

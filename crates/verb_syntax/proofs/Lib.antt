@@ -1,0 +1,5 @@
+pub mod Tests
+pub mod Settles
+pub mod Complete
+pub mod Derived
+pub mod Sound
