@@ -3,3 +3,4 @@ pub mod Settles
 pub mod Complete
 pub mod Derived
 pub mod Sound
+pub mod Steps

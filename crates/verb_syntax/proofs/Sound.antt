@@ -1,5 +1,5 @@
 -- What is read is derived: the state behind the tokens carries their derivation.
-use Rattle.std.proofs.Common.{◌≡◌, ℕ, suc, ◌<◌, ◌≤◌, List, [], ◌∷◌, ◌++◌, Bool, true, false, cond, eqb, leb, ltb, ◌&&◌, ◌⊎◌, inl, inr, Option, Some, None, refl, sym, ◌∙◌, ap, ap₂, subst, arith, codes, append-nil}
+use Rattle.std.proofs.Common.{◌≡◌, ℕ, zero, suc, ◌<◌, ◌≤◌, List, [], ◌∷◌, ◌++◌, Bool, true, false, cond, eqb, leb, ltb, ◌&&◌, ◌⊎◌, inl, inr, Option, Some, None, refl, sym, ◌∙◌, ap, ap₂, subst, arith, codes, append-nil}
 use Rattle.std.proofs.lemmas.Option.{same_Some}
 use Rattle.token_scan.specs.declared.token.Token.{Token}
 use Rattle.token_scan.specs.declared.token.TokenKind.{TokenKind}
@@ -51,16 +51,16 @@ abbrev pub StandsAt : List Token → List Token → State → Type 0
 StandsAt ts rest state = Stands ts state.mode state.frames rest
 
 -- What the unfinished rules say, by the innermost.
-record Begun (ts : List Token) (n : List ℕ) (at : ℕ) (fs : List Frame) (mid : List Token) : Type 0 where
-  token : Token
-  left : Token
-  is : IsName n token
-  is_left : IsOp Oper.LeftParen left
-  takes : takes_call fs ≡ true
-  opens : Opens ts fs (token ∷ left ∷ mid)
-  at_is : at ≡ token.from
+pub record Begun (ts : List Token) (n : List ℕ) (at : ℕ) (fs : List Frame) (mid : List Token) : Type 0 where
+  pub token : Token
+  pub left : Token
+  pub is : IsName n token
+  pub is_left : IsOp Oper.LeftParen left
+  pub takes : takes_call fs ≡ true
+  pub opens : Opens ts fs (token ∷ left ∷ mid)
+  pub at_is : at ≡ token.from
 
-open_args : {ts rest : List Token} {n : List ℕ} {at : ℕ} {args : List Arg} {fs : List Frame}
+pub open_args : {ts rest : List Token} {n : List ℕ} {at : ℕ} {args : List Arg} {fs : List Frame}
     → Opens ts (Frame.Args n at args ∷ fs) rest
     → (mid : List Token) × Begun ts n at fs mid
         × ((args ≡ []) × (mid ≡ rest) ⊎ ((comma : Token) × IsOp Oper.Comma comma × Args mid args (comma ∷ rest)))
@@ -70,7 +70,7 @@ open_args (Opens.listed {mid = mid} n token left comma is is_left is_comma takes
     (mid, record { token = token; left = left; is = is; is_left = is_left; takes = takes; opens = o; at_is = refl }, inr (comma, is_comma, d))
 
 -- with one more argument
-more_args : {ts rest low : List Token} {n : List ℕ} {at : ℕ} {args : List Arg} {fs : List Frame} {x : Arg}
+pub more_args : {ts rest low : List Token} {n : List ℕ} {at : ℕ} {args : List Arg} {fs : List Frame} {x : Arg}
     → Opens ts (Frame.Args n at args ∷ fs) rest → Argument rest x low
     → (mid : List Token) × Begun ts n at fs mid × Args mid (args ++ x ∷ []) low
 more_args {ts} {rest} {low} {n} {at} {args} {fs} {x} o d = go (open_args o)
@@ -81,42 +81,42 @@ more_args {ts} {rest} {low} {n} {at} {args} {fs} {x} o d = go (open_args o)
     go (mid, b, inl (e, same)) = (mid, b, rw (e, same) (Args.one d))
     go (mid, b, inr (comma, is, known)) = (mid, b, Args.more comma is known d)
 
-record BegunRight (ts : List Token) (op : Oper) (at : ℕ) (a : Term) (fs : List Frame) (rest : List Token) : Type 0 where
-  mid : List Token
-  token : Token
-  is : IsOp op token
-  lt : binary_rule op < 10
-  le : need fs ≤ binary_rule op
-  opens : Opens ts fs mid
-  operand : Value (left_rule op) mid a (token ∷ rest)
-  at_is : at ≡ place mid
+pub record BegunRight (ts : List Token) (op : Oper) (at : ℕ) (a : Term) (fs : List Frame) (rest : List Token) : Type 0 where
+  pub mid : List Token
+  pub token : Token
+  pub is : IsOp op token
+  pub lt : binary_rule op < 10
+  pub le : need fs ≤ binary_rule op
+  pub opens : Opens ts fs mid
+  pub operand : Value (left_rule op) mid a (token ∷ rest)
+  pub at_is : at ≡ place mid
 
-open_right : {ts rest : List Token} {op : Oper} {at : ℕ} {a : Term} {fs : List Frame}
+pub open_right : {ts rest : List Token} {op : Oper} {at : ℕ} {a : Term} {fs : List Frame}
     → Opens ts (Frame.Right op at a ∷ fs) rest → BegunRight ts op at a fs rest
 open_right (Opens.right {mid = mid} op token is lt le o d) =
     record { mid = mid; token = token; is = is; lt = lt; le = le; opens = o; operand = d; at_is = refl }
 
-record BegunUnder (ts : List Token) (op : Oper) (at : ℕ) (fs : List Frame) (rest : List Token) : Type 0 where
-  token : Token
-  is : IsOp op token
-  lt : prefix_rule op < 10
-  le : need fs ≤ prefix_rule op
-  opens : Opens ts fs (token ∷ rest)
-  at_is : at ≡ token.from
+pub record BegunUnder (ts : List Token) (op : Oper) (at : ℕ) (fs : List Frame) (rest : List Token) : Type 0 where
+  pub token : Token
+  pub is : IsOp op token
+  pub lt : prefix_rule op < 10
+  pub le : need fs ≤ prefix_rule op
+  pub opens : Opens ts fs (token ∷ rest)
+  pub at_is : at ≡ token.from
 
-open_under : {ts rest : List Token} {op : Oper} {at : ℕ} {fs : List Frame}
+pub open_under : {ts rest : List Token} {op : Oper} {at : ℕ} {fs : List Frame}
     → Opens ts (Frame.Under op at ∷ fs) rest → BegunUnder ts op at fs rest
 open_under (Opens.under op token is lt le o) = record { token = token; is = is; lt = lt; le = le; opens = o; at_is = refl }
 
-open_paren : {ts rest : List Token} {at : ℕ} {fs : List Frame} → Opens ts (Frame.Paren at ∷ fs) rest
+pub open_paren : {ts rest : List Token} {at : ℕ} {fs : List Frame} → Opens ts (Frame.Paren at ∷ fs) rest
     → (left : Token) × IsOp Oper.LeftParen left × (need fs ≤ 10) × Opens ts fs (left ∷ rest) × (at ≡ left.from)
 open_paren (Opens.within left is le o) = (left, is, le, o, refl)
 
-open_label : {ts rest : List Token} {label : List ℕ} {at : ℕ} {fs : List Frame} → Opens ts (Frame.Label label at ∷ fs) rest
+pub open_label : {ts rest : List Token} {label : List ℕ} {at : ℕ} {fs : List Frame} → Opens ts (Frame.Label label at ∷ fs) rest
     → (token : Token) × (set : Token) × IsLabel label token × IsOp Oper.Set set × Opens ts fs (token ∷ set ∷ rest) × (at ≡ token.from)
 open_label (Opens.labelled n at label token set is is_set o) = (token, set, is, is_set, o, refl)
 
-open_piped : {ts rest : List Token} {n : List ℕ} {at : ℕ} {calls : List Call} {fs : List Frame} {c : Call} {low : List Token}
+pub open_piped : {ts rest : List Token} {n : List ℕ} {at : ℕ} {calls : List Call} {fs : List Frame} {c : Call} {low : List Token}
     → Opens ts (Frame.Piped n at calls ∷ fs) rest → Calling rest c low
     → (token : Token) × (mid : List Token) × Opens ts fs (token ∷ mid) × IsName n token × Calls mid (calls ++ c ∷ []) low
         × (takes_pipe fs ≡ true) × (at ≡ token.from)
@@ -125,11 +125,11 @@ open_piped (Opens.begun {rest = rest} n token pipe is is_pipe takes o) d =
 open_piped (Opens.goes {mid = mid} n token pipe is is_pipe takes o known) d =
     (token, mid, o, is, Calls.then pipe is_pipe known d, takes, refl)
 
-open_body : {ts rest : List Token} {assigns : List (List ℕ × Pipe)} {fs : List Frame} → Opens ts (Frame.Body assigns ∷ fs) rest
+pub open_body : {ts rest : List Token} {assigns : List (List ℕ × Pipe)} {fs : List Frame} → Opens ts (Frame.Body assigns ∷ fs) rest
     → (begin : List Token) × Seps ts begin × Statements begin assigns rest × (fs ≡ [])
 open_body (Opens.body {begin = begin} s d) = (begin, s, d, refl)
 
-open_target : {ts rest : List Token} {n : List ℕ} {assigns : List (List ℕ × Pipe)} {fs : List Frame}
+pub open_target : {ts rest : List Token} {n : List ℕ} {assigns : List (List ℕ × Pipe)} {fs : List Frame}
     → Opens ts (Frame.Target n ∷ Frame.Body assigns ∷ fs) rest
     → (token : Token) × (arrow : Token) × IsName n token × IsOp Oper.Assign arrow
         × Opens ts (Frame.Body assigns ∷ []) (token ∷ arrow ∷ rest) × (fs ≡ [])
@@ -155,7 +155,7 @@ pub record Settled (ts : List Token) (rest : List Token) (rule : ℕ) (h : Held)
   pub bound : rule ≤ tight
   pub small : tight ≤ 10
 
-settled_at : {ts rest mid : List Token} (rule tight start : ℕ) (a : Term) (fs : List Frame) → Opens ts fs mid
+pub settled_at : {ts rest mid : List Token} (rule tight start : ℕ) (a : Term) (fs : List Frame) → Opens ts fs mid
     → Value tight mid a rest → start ≡ place mid → need fs ≤ tight → rule ≤ tight → tight ≤ 10
     → Settled ts rest rule (held_of start a fs)
 settled_at {ts} {rest} {mid} rule tight start a fs o d e fits bound small = record {
@@ -180,29 +180,29 @@ under_derives {ts} {rest} {mid} {op} {at} {a} {fs} tight b d fits small =
         (Value.prefix op b.token b.is b.lt (loosened tight (prefix_rule op) fits small d)),
     b.at_is)
 
-pub settle_derives : {ts rest mid : List Token} (rule tight start : ℕ) (a : Term) (fs : List Frame) → Opens ts fs mid
+pub settle_derives : {ts rest : List Token} (rule tight start : ℕ) (a : Term) (fs : List Frame) (mid : List Token) → Opens ts fs mid
     → Value tight mid a rest → start ≡ place mid → need fs ≤ tight → rule ≤ tight → tight ≤ 10
     → Settled ts rest rule (settle rule start a fs)
-settle_derives rule tight start a [] o d e fits bound small = settled_at rule tight start a [] o d e fits bound small
-settle_derives {ts} {rest} {mid} rule tight start a (Frame.Right op at left ∷ fs) o d e fits bound small =
+settle_derives rule tight start a [] mid o d e fits bound small = settled_at rule tight start a [] o d e fits bound small
+settle_derives {ts} {rest} rule tight start a (Frame.Right op at left ∷ fs) mid o d e fits bound small =
     elim (le_cases rule (binary_rule op)) [
         inl q ↦ rw (leb_true rule (binary_rule op) q)
             (let b = open_right o in
             let x = binary_derives tight b d fits small in
-            settle_derives rule (binary_rule op) at (binary_term at op left a) fs x.1 x.2 x.3 b.le q (omega (arith, b.lt)))
+            settle_derives rule (binary_rule op) at (binary_term at op left a) fs x.0 x.1 x.2 x.3 b.le q (omega (arith, b.lt)))
         | inr q ↦ rw (leb_false rule (binary_rule op) q)
             (settled_at rule tight start a (Frame.Right op at left ∷ fs) o d e fits bound small)
     ]
-settle_derives {ts} {rest} {mid} rule tight start a (Frame.Under op at ∷ fs) o d e fits bound small =
+settle_derives {ts} {rest} rule tight start a (Frame.Under op at ∷ fs) mid o d e fits bound small =
     elim (le_cases rule (prefix_rule op)) [
         inl q ↦ rw (leb_true rule (prefix_rule op) q)
             (let b = open_under o in
             let x = under_derives tight b d fits small in
-            settle_derives rule (prefix_rule op) at (unary_term at op a) fs x.1 x.2 x.3 b.le q (omega (arith, b.lt)))
+            settle_derives rule (prefix_rule op) at (unary_term at op a) fs x.0 x.1 x.2 x.3 b.le q (omega (arith, b.lt)))
         | inr q ↦ rw (leb_false rule (prefix_rule op) q)
             (settled_at rule tight start a (Frame.Under op at ∷ fs) o d e fits bound small)
     ]
-settle_derives rule tight start a (frame ∷ fs) o d e fits bound small =
+settle_derives rule tight start a (frame ∷ fs) mid o d e fits bound small =
     settled_at rule tight start a (frame ∷ fs) o d e fits bound small
 
 name_derives : {ts rest : List Token} (n : List ℕ) (at : ℕ) (fs : List Frame) → Stands ts (Mode.Named n at) fs rest
@@ -212,7 +212,7 @@ name_derives {ts} {rest} n at fs (token, o, is, e) le =
         (subst (λ (p : ℕ). Value 10 (token ∷ rest) (name_term p n) rest) (sym e) (Value.name n token is)) e le
         (omega arith) (omega arith)
 
-args_need : (fs : List Frame) → is_args fs ≡ true → need fs ≤ 10
+pub args_need : (fs : List Frame) → is_args fs ≡ true → need fs ≤ 10
 args_need (Frame.Args n at args ∷ fs) e = omega arith
 args_need [] e = absurd (cc)
 args_need _ e = absurd (cc)
@@ -242,4 +242,4 @@ held_derives _ fs h s e = no_some e
 pub held_settles : {ts rest : List Token} (rule : ℕ) (h : Held) → rule ≤ 10 → Settled ts rest 10 h
     → Settled ts rest rule (settle rule h.start h.term h.frames)
 held_settles rule h le x =
-    settle_derives rule x.tight h.start h.term h.frames x.opens x.derives x.stands x.fits (omega (arith, x.bound)) x.small
+    settle_derives rule x.tight h.start h.term h.frames x.mid x.opens x.derives x.stands x.fits (omega (arith, x.bound)) x.small
