@@ -59,13 +59,13 @@ literal_reads what (TokenKind.Word word) at fs le e =
 literal_reads what (TokenKind.Str text) at fs le e = text_reads what text at fs le (same_Some (kind.Str text) what e)
 literal_reads what _ at fs le e = no_some e
 
-may_call : (fs : List Frame) → need fs ≤ 10 → takes_call fs ≡ true
+pub may_call : (fs : List Frame) → need fs ≤ 10 → takes_call fs ≡ true
 may_call [] h = absurd (omega arith)
 may_call (Frame.Target name ∷ fs) h = absurd (omega arith)
 may_call (Frame.Body assigns ∷ fs) h = absurd (omega arith)
 may_call _ h = refl
 
-may_pipe : (fs : List Frame) → need fs ≡ 0 → takes_pipe fs ≡ true
+pub may_pipe : (fs : List Frame) → need fs ≡ 0 → takes_pipe fs ≡ true
 may_pipe [] h = absurd (omega arith)
 may_pipe (Frame.Right op at a ∷ fs) h = absurd (omega arith)
 may_pipe (Frame.Under Oper.Not at ∷ fs) h = absurd (omega arith)
@@ -76,19 +76,19 @@ may_pipe (Frame.Piped table at calls ∷ fs) h = absurd (omega arith)
 may_pipe _ h = refl
 
 -- behind a call at the place of an operand
-called_have : (name : List ℕ) (at : ℕ) (args : List Arg) (fs : List Frame) → need fs ≤ 10
+pub called_have : (name : List ℕ) (at : ℕ) (args : List Arg) (fs : List Frame) → need fs ≤ 10
     → called name at args fs ≡ state_of (Mode.Have at (call_term at (call_of name at args))) fs
 called_have name at args [] h = absurd (omega arith)
 called_have name at args (Frame.Piped table b calls ∷ fs) h = absurd (omega arith)
 called_have name at args _ h = refl
 
-close_whole : (mode : Mode) (frames : List Frame) (h : Held) → whole mode frames ≡ Some h
+pub close_whole : (mode : Mode) (frames : List Frame) (h : Held) → whole mode frames ≡ Some h
     → close_step mode frames ≡ close_value h.start h.term h.frames
 close_whole Mode.Want frames h e = no_some e
 close_whole Mode.Package frames h e = no_some e
 close_whole mode frames h e = ap (λ (o : Option Held). o >>= λ x. close_value x.start x.term x.frames) e
 
-close_argument : (start : ℕ) (a : Term) (frames : List Frame) (p : Pending) → argument start a frames ≡ Some p
+pub close_argument : (start : ℕ) (a : Term) (frames : List Frame) (p : Pending) → argument start a frames ≡ Some p
     → close_value start a frames ≡ Some (called p.name p.at p.args p.frames)
 close_argument start a (Frame.Paren at ∷ frames) p e = no_some e
 close_argument start a [] p e = no_some e
@@ -168,7 +168,7 @@ case_paren {ts} {rest} {a} left right fs le is_left is_right x = record {
 }
 
 -- behind a call's name and parenthesis
-open_call : (n : List ℕ) (token left : Token) (ts : List Token) (fs : List Frame) → IsName n token → IsOp Oper.LeftParen left
+pub open_call : (n : List ℕ) (token left : Token) (ts : List Token) (fs : List Frame) → IsName n token → IsOp Oper.LeftParen left
     → takes_call fs ≡ true
     → run (token ∷ left ∷ ts) (state_of Mode.Want fs) ≡ run ts (state_of Mode.Want (Frame.Args n token.from [] ∷ fs))
 open_call n token left ts fs is is_left takes =
@@ -184,7 +184,7 @@ case_bare rest n token left right is is_left is_right = record {
         ∙ run_on right rest (TokenKind.Op Oper.RightParen) Mode.Want (Frame.Args n token.from [] ∷ fs) (called n token.from [] fs) is_right refl
 }
 
-close_args : {ts rest : List Token} {args before : List Arg} (n : List ℕ) (at : ℕ) (right : Token) (fs : List Frame)
+pub close_args : {ts rest : List Token} {args before : List Arg} (n : List ℕ) (at : ℕ) (right : Token) (fs : List Frame)
     → IsOp Oper.RightParen right → ReadsArgs ts (right ∷ rest) n at before args fs
     → run ts (state_of Mode.Want (Frame.Args n at before ∷ fs)) ≡ run rest (called n at args fs)
 close_args {ts} {rest} {args} {before} n at right fs is x =
@@ -220,7 +220,7 @@ case_plain {ts} {rest} {a} n at before fs x = record {
     is_whole = x.is_whole; is_argument = refl
 }
 
-read_label : (label : List ℕ) (token set : Token) (ts : List Token) (n : List ℕ) (at : ℕ) (before : List Arg) (fs : List Frame)
+pub read_label : (label : List ℕ) (token set : Token) (ts : List Token) (n : List ℕ) (at : ℕ) (before : List Arg) (fs : List Frame)
     → IsLabel label token → IsOp Oper.Set set
     → run (token ∷ set ∷ ts) (state_of Mode.Want (Frame.Args n at before ∷ fs))
         ≡ run ts (state_of Mode.Want (Frame.Label label token.from ∷ Frame.Args n at before ∷ fs))
@@ -268,7 +268,7 @@ case_pipeline {ts} {rest} calls n token fs z is x = record {
     is_whole = rw (eqb_true (need fs) 0 z) refl
 }
 
-pipe_on : (pipe : Token) (ts : List Token) (mode : Mode) (fs : List Frame) (next : State) → IsPipe pipe
+pub pipe_on : (pipe : Token) (ts : List Token) (mode : Mode) (fs : List Frame) (next : State) → IsPipe pipe
     → pipe_step mode fs ≡ Some next → run (pipe ∷ ts) (state_of mode fs) ≡ run ts next
 pipe_on pipe ts mode fs next (inl is) e = run_on pipe ts (TokenKind.Op Oper.BarPipe) mode fs next is e
 pipe_on pipe ts mode fs next (inr is) e = run_on pipe ts (TokenKind.Op Oper.PercentPipe) mode fs next is e

@@ -4,3 +4,5 @@ pub mod Complete
 pub mod Derived
 pub mod Sound
 pub mod Steps
+pub mod Scripts
+pub mod Completing

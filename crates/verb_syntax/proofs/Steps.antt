@@ -459,7 +459,7 @@ module _ (ts rest : List Token) where
   oper_derives Oper.Semicolon token mode fs next is s e = sep_derives token mode fs next (inr is) s e
   oper_derives op token mode fs next is s e = operator_derives op token mode fs next is s e
 
-  kind_derives : (what : TokenKind) (token : Token) (mode : Mode) (fs : List Frame) (next : State)
+  pub kind_derives : (what : TokenKind) (token : Token) (mode : Mode) (fs : List Frame) (next : State)
       → token.kind ≡ what → Stands ts mode fs (token ∷ rest) → kind_step what token.from mode fs ≡ Some next → StandsAt ts rest next
   kind_derives (TokenKind.Name n) token mode fs next is s e = name_derives n token mode fs next is s e
   kind_derives (TokenKind.Whole x) token mode fs next is s e = literal_derives (kind.Whole x) token mode fs next (ap literal_of is) s e

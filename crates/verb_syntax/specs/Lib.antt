@@ -6,3 +6,4 @@ pub mod Unfinished
 pub mod Operators
 pub mod Parsing
 pub mod Machine
+pub mod Reader

@@ -2,9 +2,11 @@
 #![tactic(auto)]
 
 mod frame;
+mod reader;
 mod rule;
 mod state;
 mod step;
 mod tree;
 
+pub use reader::parse;
 pub use tree::{Arg, Call, Pipe, Script, SyntaxFault, SyntaxKind, Term, TermKind};
