@@ -6,3 +6,6 @@ pub mod Sound
 pub mod Steps
 pub mod Scripts
 pub mod Completing
+pub mod Kept
+pub mod Parses
+pub mod Counted

@@ -7,3 +7,4 @@ pub mod Operators
 pub mod Parsing
 pub mod Machine
 pub mod Reader
+pub mod Counting

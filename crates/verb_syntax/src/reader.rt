@@ -6,6 +6,7 @@ ghost use Rattle.verb_syntax.specs.Operators.{ends_operand, is_counted, count_at
 ghost use Rattle.verb_syntax.specs.Machine.{begin};
 ghost use Rattle.verb_syntax.specs.Reader.{limited, reads};
 ghost use Rattle.verb_syntax.specs.Parsing.{IsParsed, DeriveOne};
+ghost use Rattle.verb_syntax.specs.Counting.{CountsOperators};
 
 use crate::frame::{Frame, Frames};
 use crate::rule::rule_of;
@@ -199,6 +200,32 @@ fn read(alloc: Global, token: &Token, reader: Reader) -> Res<Reader, SyntaxFault
     }
 }
 
+fn read_all(alloc: Global, tokens: &[Token], end: u32) -> Res<Script, SyntaxFault>
+    ensures { IsParsed result tokens.now end }
+{
+    let mut reader = Reader {
+        state: begun(alloc)?,
+        depth: 0,
+        goes_on: false,
+        whole: false,
+        count: 0,
+    };
+    for token in tokens {
+        reader = match read(alloc, token, reader) {
+            Ok(next) => next,
+            Err(why) => return Err(why),
+        };
+    }
+    match ended(alloc, reader.state) {
+        Ok(script) => Ok(script),
+        Err(Or::Fault(_)) => Err(Or::Fault(SyntaxFault {
+            kind: SyntaxKind::Unfinished,
+            at: end,
+        })),
+        Err(Or::Memory) => Err(Or::Memory),
+    }
+}
+
 /// The syntax tree of a script, or its first fault, from its tokens. `end` is the script's length in bytes.
 ///
 /// The grammar is a small part of R's: assignments and one last pipeline of calls, whose arguments are expressions with
@@ -209,23 +236,7 @@ pub fn parse(alloc: Global, tokens: &[Token], end: u32) -> Res<Script, SyntaxFau
     requires in_order { AreInOrder 0 tokens.now end }
     ensures parsed { IsParsed result tokens.now end }
     ensures one_tree { DeriveOne }
+    ensures counted { CountsOperators }
 {
-    let mut reader = Reader {
-        state: begun(alloc)?,
-        depth: 0,
-        goes_on: false,
-        whole: false,
-        count: 0,
-    };
-    for token in tokens {
-        reader = read(alloc, token, reader)?;
-    }
-    match ended(alloc, reader.state) {
-        Ok(script) => Ok(script),
-        Err(Or::Fault(_)) => Err(Or::Fault(SyntaxFault {
-            kind: SyntaxKind::Unfinished,
-            at: end,
-        })),
-        Err(Or::Memory) => Err(Or::Memory),
-    }
+    read_all(alloc, tokens, end)
 }

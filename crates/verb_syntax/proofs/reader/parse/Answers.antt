@@ -1,0 +1,10 @@
+-- The laws on the definitions.
+use Rattle.verb_syntax.proofs.Parses.{derive_one}
+use Rattle.verb_syntax.proofs.Counted.{counts_operators}
+use Rattle.verb_syntax.proofs.reader.parse.Goals as goal
+
+pub returns-clause-one_tree : goal.returns-clause-one_tree
+returns-clause-one_tree c = derive_one
+
+pub returns-clause-counted : goal.returns-clause-counted
+returns-clause-counted c = counts_operators
