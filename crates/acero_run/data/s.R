@@ -1,0 +1,1 @@
+t |> filter(x > 5) |> select(id, x)

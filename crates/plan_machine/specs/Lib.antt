@@ -1,0 +1,17 @@
+pub mod Phases
+pub mod Upkeep
+pub mod Lists
+pub mod Batch
+pub mod Plan
+pub mod State
+pub mod Enabled
+pub mod After
+pub mod History
+pub mod Driver
+pub mod Meaning
+pub mod WellFormed
+pub mod Bound
+pub mod Budget
+pub mod Laws
+pub mod Examples
+pub mod DriverLaws

@@ -1,0 +1,8 @@
+pub mod AnswerSteps
+pub mod EachSome
+pub mod Filled
+pub mod Joined
+pub mod NumberText
+pub mod PrintedTable
+pub mod SpelledBytes
+pub mod SpelledScript

@@ -1,0 +1,12 @@
+pub mod Steps
+pub mod Names
+pub mod Numbers
+pub mod FirstWords
+pub mod FirstScript
+pub mod FirstTable
+pub mod Verbs
+pub mod CsvText
+pub mod FaultLines
+pub mod Answer
+pub mod Outcome
+pub mod Laws

@@ -1,0 +1,58 @@
+ghost use Rattle.std.specs.Prelude.{◌≡◌, IfOk};
+ghost use Rattle.script_session.specs.FaultLines.{script_line, table_line, unread_line, long_line};
+ghost use Rattle.script_session.specs.Answer.{bad_words, not_built_script, not_built_table, too_long};
+
+use crate::status::{Refusal, Status};
+use scalar_value::{Mem, Text};
+use std::alloc::Global;
+
+/// The line of a refusal of the words.
+pub const USAGE_LINE: &str = "acero_run: bad command line\n";
+
+/// The line of a result that can't be written.
+pub const WRITE_LINE: &str = "acero_run: cannot write the result\n";
+
+/// The line for want of memory, which takes none.
+pub const MEMORY_LINE: &str = "acero_run: out of memory\n";
+
+pub fn bad_words(alloc: Global) -> Mem<Refusal>
+    ensures { IfOk result (λ r. r ≡ bad_words) }
+{
+    Ok(Refusal {
+        status: Status::Usage,
+        line: Text::of(alloc, USAGE_LINE)?,
+    })
+}
+
+pub fn not_built_script(alloc: Global, path: &str) -> Mem<Refusal>
+    ensures { IfOk result (λ r. r ≡ not_built_script path.now) }
+{
+    Ok(Refusal {
+        status: Status::Script,
+        line: Text::of_string(format!(in alloc; "acero_run: {path}:1:1: NotBuilt\n")?),
+    })
+}
+
+pub fn not_built_table(alloc: Global, name: &str) -> Mem<Refusal>
+    ensures { IfOk result (λ r. r ≡ not_built_table name.now) }
+{
+    Ok(Refusal {
+        status: Status::Table,
+        line: Text::of_string(format!(in alloc; "acero_run: {name}: NotBuilt row 0 column 0\n")?),
+    })
+}
+
+pub fn too_long(alloc: Global, path: &str) -> Mem<Refusal>
+    ensures { IfOk result (λ r. r ≡ too_long path.now) }
+{
+    Ok(Refusal {
+        status: Status::Read,
+        line: Text::of_string(format!(in alloc; "acero_run: {path} is too long\n")?),
+    })
+}
+
+pub fn unread_line(alloc: Global, path: &str) -> Mem<Text>
+    ensures { IfOk result (λ t. t ≡ unread_line path.now) }
+{
+    Ok(Text::of_string(format!(in alloc; "acero_run: cannot read {path}\n")?))
+}

@@ -1,0 +1,1 @@
+deliveries |> filter(delay_minutes > 30) |> select(delivery_id, depot, delay_minutes)
