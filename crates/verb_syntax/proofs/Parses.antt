@@ -22,7 +22,9 @@ use Rattle.verb_syntax.specs.Parsing.{Begins, IsDeep, AllShallow, IsUnexpected, 
 use Rattle.scalar_value.specs.declared.memory.Or.{Or}
 use Rattle.scalar_value.specs.declared.memory.Or.TheVariants.{Fault, Memory}
 use Rattle.scalar_value.specs.Gives.{Gives}
-use Rattle.verb_syntax.specs.Machine.{◌>>=◌, state_of, begin, step, run, finish}
+use Rattle.verb_syntax.specs.Machine.{◌>>=◌, state_of, begin, kind_step, step, run, finish}
+use Rattle.std.specs.Prelude.{ℤ}
+use Rattle.verb_syntax.specs.Opening.{OpenOne, OpensAll}
 use Rattle.verb_syntax.specs.Reader.{reader_at, limited, moved, reads}
 use Rattle.verb_syntax.proofs.Tests.{bool_cases, from_ltb, from_ltb_false, no_some}
 use Rattle.verb_syntax.proofs.Complete.{run_step}
@@ -364,3 +366,55 @@ pub token_next : (tokens : List Token) (i : ℕ) (token : Token) → i < length 
     → take i tokens ++ token ∷ [] ≡ take (i + 1) tokens
 token_next tokens i token lt e =
     ap (λ (t : Token). take i tokens ++ t ∷ []) e ∙ sym (take_more tokens i token lt)
+
+pub open_one : OpenOne
+open_one tokens a b o p =
+    let same = same_Some (state_of Mode.Want a) (state_of Mode.Want b) (sym (opens_read o) ∙ opens_read p) in
+    ap (λ (s : State). s.frames) same
+
+rest_cases : (t : Token) (front : List Token) (depth : ℕ) (after b : Bool)
+    → ((low : ℕ) × (on : Bool) × ((ts : List Token) → unpassed depth after (front ++ ts) ≡ unpassed depth after front ++ unpassed low on ts))
+    → ((low : ℕ) × (on : Bool) × ((ts : List Token) → unpassed (deeper t.kind depth) (goes_on t.kind) (front ++ ts)
+        ≡ unpassed (deeper t.kind depth) (goes_on t.kind) front ++ unpassed low on ts))
+    → (low : ℕ) × (on : Bool) × ((ts : List Token)
+        → cond b (unpassed depth after (front ++ ts)) (t ∷ unpassed (deeper t.kind depth) (goes_on t.kind) (front ++ ts))
+            ≡ cond b (unpassed depth after front) (t ∷ unpassed (deeper t.kind depth) (goes_on t.kind) front) ++ unpassed low on ts)
+rest_cases t front depth after true p q = p
+rest_cases t front depth after false p q = (q.0, q.1, λ ts. ap (λ (l : List Token). t ∷ l) (q.2 ts))
+
+-- what the tokens behind a front are read as
+read_rest : (front : List Token) (depth : ℕ) (after : Bool)
+    → (low : ℕ) × (on : Bool) × ((ts : List Token) → unpassed depth after (front ++ ts) ≡ unpassed depth after front ++ unpassed low on ts)
+read_rest [] depth after = (depth, after, λ ts. refl)
+read_rest (t ∷ front) depth after =
+    rest_cases t front depth after (is_passed t.kind depth after) (read_rest front depth after)
+        (read_rest front (deeper t.kind depth) (goes_on t.kind))
+
+run_parts : (xs ys : List Token) (state end : State) → run (xs ++ ys) state ≡ Some end
+    → (mid : State) × (run xs state ≡ Some mid) × (run ys mid ≡ Some end)
+run_parts [] ys state end e = (state, refl, e)
+run_parts (x ∷ xs) ys state end e =
+    option_and_then_some {P = (mid : State) × (run (x ∷ xs) state ≡ Some mid) × (run ys mid ≡ Some end)} (λ n. run (xs ++ ys) n) (step x state) end e
+        (λ next en er.
+            let p = run_parts xs ys next end er in
+            (p.0, run_step x xs state next en ∙ p.1, p.2))
+
+number_opens : (ts : List Token) (number : ℤ) (at : ℕ) (mode : Mode) (fs : List Frame) (next : State) → Stands ts mode fs []
+    → kind_step (TokenKind.Whole number) at mode fs ≡ Some next → Opens ts fs []
+number_opens ts number at Mode.Want fs next s e = s
+number_opens ts number at _ fs next s e = no_some e
+
+pub opens_all : OpensAll
+opens_all front token number is (more, script, d) =
+    let y = script_read (read ((front ++ token ∷ []) ++ more)) script d in
+    let r = read_rest front 0 false in
+    let rest : List Token = unpassed (deeper token.kind r.0) (goes_on token.kind) more in
+    let same : read ((front ++ token ∷ []) ++ more) ≡ read front ++ token ∷ rest =
+        ap read (append_assoc front (token ∷ []) more) ∙ (r.2 (token ∷ more)
+            ∙ ap (λ (k : TokenKind). read front ++ cond (is_passed k r.0 r.1) (unpassed r.0 r.1 more) (token ∷ rest)) is) in
+    let p = run_parts (read front) (token ∷ rest) begin y.0 (ap (λ (l : List Token). run l begin) (sym same) ∙ y.1) in
+    (p.0.frames,
+    option_and_then_some {P = Opens (read front) p.0.frames []} (λ n. run rest n) (step token p.0) y.0 p.2
+        (λ next en er. number_opens (read front) number token.from p.0.mode p.0.frames next
+            (run_derives (read front) (read front) begin p.0 (start_stands (read front)) p.1)
+            (ap (λ (k : TokenKind). kind_step k token.from p.0.mode p.0.frames) (sym is) ∙ en)))

@@ -8,3 +8,4 @@ pub mod Parsing
 pub mod Machine
 pub mod Reader
 pub mod Counting
+pub mod Opening

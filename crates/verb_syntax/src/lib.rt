@@ -6,6 +6,8 @@ mod reader;
 mod rule;
 mod state;
 mod step;
+#[cfg(test)]
+mod tests;
 mod tree;
 
 pub use reader::parse;

@@ -7,6 +7,7 @@ ghost use Rattle.verb_syntax.specs.Machine.{begin};
 ghost use Rattle.verb_syntax.specs.Reader.{limited, reads};
 ghost use Rattle.verb_syntax.specs.Parsing.{IsParsed, DeriveOne};
 ghost use Rattle.verb_syntax.specs.Counting.{CountsOperators};
+ghost use Rattle.verb_syntax.specs.Opening.{OpenOne, OpensAll};
 
 use crate::frame::{Frame, Frames};
 use crate::rule::rule_of;
@@ -236,6 +237,8 @@ pub fn parse(alloc: Global, tokens: &[Token], end: u32) -> Res<Script, SyntaxFau
     requires in_order { AreInOrder 0 tokens.now end }
     ensures parsed { IsParsed result tokens.now end }
     ensures one_tree { DeriveOne }
+    ensures one_opening { OpenOne }
+    ensures all_open { OpensAll }
     ensures counted { CountsOperators }
 {
     read_all(alloc, tokens, end)
