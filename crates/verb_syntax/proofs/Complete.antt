@@ -21,7 +21,7 @@ use Rattle.verb_syntax.specs.Trees.{term_of, name_term, text_term, binary_term, 
 use Rattle.verb_syntax.specs.Grammar.{binary_rule, left_rule, prefix_rule, IsOp, IsName, IsLabel, IsPipe, IsSep, literal_of, is_package, place, Value, Calling, Args, Argument, Whole, Calls, Pipeline, Statement, Seps, Statements, Derives}
 use Rattle.verb_syntax.specs.Levels.{need, takes_pipe, takes_call}
 use Rattle.verb_syntax.specs.Machine.{◌>>=◌, state_of, want, held_of, pending_of, settle, held, placed, infix_step, prefix_step, operator_step, is_body, is_args, open_step, whole, argument, comma_step, called, close_bare, close_value, close_step, labels, label_step, pipe_step, assign_step, pipe_held, stored, sep_step, name_step, literal_in, literal_step, text_step, oper_step, kind_step, step, begin, run, finished, finish}
-use Rattle.verb_syntax.proofs.Tests.{leb_true, ltb_true, eqb_true, from_leb, bool_cases, no_some}
+use Rattle.verb_syntax.proofs.Basics.{leb_true, ltb_true, eqb_true, from_leb, bool_cases, no_some}
 use Rattle.verb_syntax.proofs.Settles.{left_ge, left_le, settle_held, settle_stays, settle_argument, settle_loosens}
 
 -- one step, and the steps behind it
@@ -116,7 +116,7 @@ pub infix_held : (op : Oper) (mode : Mode) (frames fs : List Frame) (h : Held) (
     → infix_step op mode frames ≡ want (Frame.Right op start a ∷ fs)
 infix_held op mode frames fs h start a lt le e s =
     ap (λ (o : Option Held). o >>= λ x. placed op (settle (left_rule op) x.start x.term x.frames)) e
-        ∙ (ap (placed op) (s ∙ settle_stays op start a fs lt le) ∙ placed_held op start a fs lt le)
+    ∙ (ap (placed op) (s ∙ settle_stays op start a fs lt le) ∙ placed_held op start a fs lt le)
 
 -- a binary operator
 pub step_binary : (op : Oper) (token : Token) (mode : Mode) (frames fs : List Frame) (h : Held) (start : ℕ) (a : Term)
@@ -125,21 +125,21 @@ pub step_binary : (op : Oper) (token : Token) (mode : Mode) (frames fs : List Fr
     → step token (state_of mode frames) ≡ want (Frame.Right op start a ∷ fs)
 step_binary op token mode frames fs h start a is lt le e s =
     step_as token (TokenKind.Op op) mode frames (want (Frame.Right op start a ∷ fs)) is
-        (oper_binary op token.from mode frames lt
-            ∙ (operator_held op token.from mode frames h e ∙ infix_held op mode frames fs h start a lt le e s))
+    (oper_binary op token.from mode frames lt
+    ∙ (operator_held op token.from mode frames h e ∙ infix_held op mode frames fs h start a lt le e s))
 
 pub step_prefix : (op : Oper) (token : Token) (fs : List Frame) → IsOp op token → prefix_rule op < 10
     → need fs ≤ prefix_rule op → step token (state_of Mode.Want fs) ≡ want (Frame.Under op token.from ∷ fs)
 step_prefix op token fs is lt le =
     step_as token (TokenKind.Op op) Mode.Want fs (want (Frame.Under op token.from ∷ fs)) is
-        (oper_prefix op token.from fs lt
-            ∙ rw (ltb_true (prefix_rule op) 10 lt, leb_true (need fs) (prefix_rule op) le) refl)
+    (oper_prefix op token.from fs lt
+    ∙ rw (ltb_true (prefix_rule op) 10 lt, leb_true (need fs) (prefix_rule op) le) refl)
 
 pub step_paren : (token : Token) (fs : List Frame) → IsOp Oper.LeftParen token → need fs ≤ 10
     → step token (state_of Mode.Want fs) ≡ want (Frame.Paren token.from ∷ fs)
 step_paren token fs is le =
     step_as token (TokenKind.Op Oper.LeftParen) Mode.Want fs (want (Frame.Paren token.from ∷ fs)) is
-        (rw (leb_true (need fs) 10 le) refl)
+    (rw (leb_true (need fs) 10 le) refl)
 
 -- a literal, at the place of an operand
 pub record Literals (what : TermKind) (k : TokenKind) (at : ℕ) (fs : List Frame) : Type 0 where

@@ -12,7 +12,7 @@ use Rattle.verb_syntax.specs.Grammar.{binary_rule, prefix_rule, IsOp, IsName, Is
 use Rattle.verb_syntax.specs.Lines.{deeper}
 use Rattle.verb_syntax.specs.Operators.{ends_operand, is_counted, count_at, operators_from}
 use Rattle.verb_syntax.specs.Counting.{applied, applied_call, applied_args, applied_argument, applied_whole, applied_calls, CountsOperators}
-use Rattle.verb_syntax.proofs.Tests.{no_some}
+use Rattle.verb_syntax.proofs.Basics.{no_some}
 
 not_zero : (n : ℕ) → 1 ≤ n → eqb n 0 ≡ false
 not_zero n h = grind (arith, nat_tests)
@@ -33,7 +33,7 @@ over_left : (token : Token) (ts : List Token) (depth : ℕ) (whole : Bool) (coun
     → operators_from depth whole count (token ∷ ts) ≡ operators_from (suc depth) false count ts
 over_left token ts depth whole count is h =
     over token (TokenKind.Op Oper.LeftParen) ts depth whole count is
-        ∙ ap (λ (b : Bool). operators_from (suc depth) false (cond b 0 count) ts) (not_zero depth h)
+    ∙ ap (λ (b : Bool). operators_from (suc depth) false (cond b 0 count) ts) (not_zero depth h)
 
 over_right : (token : Token) (ts : List Token) (depth : ℕ) (whole : Bool) (count : ℕ) → IsOp Oper.RightParen token
     → operators_from (suc depth) whole count (token ∷ ts) ≡ operators_from depth true count ts
@@ -48,11 +48,11 @@ over_comma : (token : Token) (ts : List Token) (depth : ℕ) (whole : Bool) (cou
     → operators_from depth whole count (token ∷ ts) ≡ operators_from depth false count ts
 over_comma token ts depth whole count is h =
     over token (TokenKind.Op Oper.Comma) ts depth whole count is
-        ∙ ap (λ (b : Bool). operators_from depth false (cond b 0 count) ts) (not_one depth h)
+    ∙ ap (λ (b : Bool). operators_from depth false (cond b 0 count) ts) (not_one depth h)
 
 binary_counts : (op : Oper) (ts : List Token) (depth count : ℕ) → binary_rule op < 10
     → operators_from (deeper (TokenKind.Op op) depth) (ends_operand (TokenKind.Op op)) (count_at (TokenKind.Op op) depth true count) ts
-        ≡ operators_from depth false (cond (is_counted op) (suc count) count) ts
+    ≡ operators_from depth false (cond (is_counted op) (suc count) count) ts
 binary_counts Oper.LeftParen ts depth count h = absurd (omega arith)
 binary_counts Oper.RightParen ts depth count h = absurd (omega arith)
 binary_counts Oper.Comma ts depth count h = absurd (omega arith)
@@ -60,7 +60,7 @@ binary_counts _ ts depth count h = refl
 
 prefix_counts : (op : Oper) (ts : List Token) (depth count : ℕ) → prefix_rule op < 10
     → operators_from (deeper (TokenKind.Op op) depth) (ends_operand (TokenKind.Op op)) (count_at (TokenKind.Op op) depth false count) ts
-        ≡ operators_from depth false count ts
+    ≡ operators_from depth false count ts
 prefix_counts Oper.Not ts depth count h = refl
 prefix_counts Oper.Sub ts depth count h = refl
 prefix_counts _ ts depth count h = absurd (omega arith)
@@ -101,10 +101,10 @@ mutual
   value_counts (Value.next lt d) depth count h = value_counts d depth count h
   value_counts (Value.binary {mid = mid} {rest = rest} op token is lt x y) depth count h =
       value_counts x depth count h
-          ∙ (over token (TokenKind.Op op) mid depth true (count + applied x) is
-              ∙ (binary_counts op mid depth (count + applied x) lt
-                  ∙ (value_counts y depth (cond (is_counted op) (suc (count + applied x)) (count + applied x)) h
-                      ∙ ap (λ (m : ℕ). operators_from depth true m rest) (one_more (is_counted op) count (applied x) (applied y)))))
+      ∙ (over token (TokenKind.Op op) mid depth true (count + applied x) is
+      ∙ (binary_counts op mid depth (count + applied x) lt
+      ∙ (value_counts y depth (cond (is_counted op) (suc (count + applied x)) (count + applied x)) h
+      ∙ ap (λ (m : ℕ). operators_from depth true m rest) (one_more (is_counted op) count (applied x) (applied y)))))
   value_counts (Value.prefix {ts = ts} op token is lt x) depth count h =
       over token (TokenKind.Op op) ts depth false count is ∙ (prefix_counts op ts depth count lt ∙ value_counts x depth count h)
   value_counts (Value.literal {rest = rest} what token e) depth count h = literal_counts token.kind what rest depth count e
@@ -113,26 +113,26 @@ mutual
   value_counts (Value.call d) depth count h = call_counts d depth count h
   value_counts (Value.paren {ts = ts} {rest = rest} left right is_left is_right x) depth count h =
       over_left left ts depth false count is_left h
-          ∙ (value_counts x (suc depth) count (omega arith) ∙ over_right right rest depth true (count + applied x) is_right)
+      ∙ (value_counts x (suc depth) count (omega arith) ∙ over_right right rest depth true (count + applied x) is_right)
 
   call_counts : {ts : List Token} {c : Call} {rest : List Token} (d : Calling ts c rest) (depth count : ℕ) → 1 ≤ depth
       → operators_from depth false count ts ≡ operators_from depth true (count + applied_call d) rest
   call_counts (Calling.bare {rest = rest} n token left right is is_left is_right) depth count h =
       over token (TokenKind.Name n) (left ∷ right ∷ rest) depth false count is
-          ∙ (over_left left (right ∷ rest) depth true count is_left h
-              ∙ (over_right right rest depth false count is_right ∙ nothing_more depth count rest))
+      ∙ (over_left left (right ∷ rest) depth true count is_left h
+      ∙ (over_right right rest depth false count is_right ∙ nothing_more depth count rest))
   call_counts (Calling.full {ts = ts} {rest = rest} n token left right is is_left is_right d) depth count h =
       over token (TokenKind.Name n) (left ∷ ts) depth false count is
-          ∙ (over_left left ts depth true count is_left h
-              ∙ (args_counts d (suc depth) count (omega arith) ∙ over_right right rest depth true (count + applied_args d) is_right))
+      ∙ (over_left left ts depth true count is_left h
+      ∙ (args_counts d (suc depth) count (omega arith) ∙ over_right right rest depth true (count + applied_args d) is_right))
 
   args_counts : {ts : List Token} {args : List Arg} {rest : List Token} (d : Args ts args rest) (depth count : ℕ) → 2 ≤ depth
       → operators_from depth false count ts ≡ operators_from depth true (count + applied_args d) rest
   args_counts (Args.one d) depth count h = argument_counts d depth count (omega arith)
   args_counts (Args.more {mid = mid} {rest = rest} comma is d e) depth count h =
       args_counts d depth count h
-          ∙ (over_comma comma mid depth true (count + applied_args d) is h
-              ∙ (argument_counts e depth (count + applied_args d) (omega arith) ∙ then_more depth count (applied_args d) (applied_argument e) rest))
+      ∙ (over_comma comma mid depth true (count + applied_args d) is h
+      ∙ (argument_counts e depth (count + applied_args d) (omega arith) ∙ then_more depth count (applied_args d) (applied_argument e) rest))
 
   argument_counts : {ts : List Token} {x : Arg} {rest : List Token} (d : Argument ts x rest) (depth count : ℕ) → 1 ≤ depth
       → operators_from depth false count ts ≡ operators_from depth true (count + applied_argument d) rest
@@ -152,8 +152,8 @@ mutual
       pipe_counts pipe ts depth count is ∙ call_counts d depth count h
   calls_counts (Calls.then {mid = mid} {rest = rest} pipe is d e) depth count h =
       calls_counts d depth count h
-          ∙ (pipe_counts pipe mid depth (count + applied_calls d) is
-              ∙ (call_counts e depth (count + applied_calls d) h ∙ then_more depth count (applied_calls d) (applied_call e) rest))
+      ∙ (pipe_counts pipe mid depth (count + applied_calls d) is
+      ∙ (call_counts e depth (count + applied_calls d) h ∙ then_more depth count (applied_calls d) (applied_call e) rest))
 
 pub counts_operators : CountsOperators
 counts_operators ts rest a d depth count h = whole_counts d depth count h

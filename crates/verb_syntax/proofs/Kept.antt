@@ -19,7 +19,7 @@ use Rattle.verb_syntax.specs.Trees.{term_of, name_term, text_term, binary_term, 
 use Rattle.verb_syntax.specs.Grammar.{binary_rule, left_rule, prefix_rule, is_package}
 use Rattle.verb_syntax.specs.Levels.{level_of, levels, need, takes_pipe, takes_call}
 use Rattle.verb_syntax.specs.Machine.{◌>>=◌, state_of, want, held_of, pending_of, settle, held, placed, infix_step, prefix_step, operator_step, is_body, is_args, open_step, whole, argument, comma_step, called, close_bare, close_value, close_step, labels, label_step, pipe_step, assign_step, pipe_held, stored, sep_step, name_step, literal_in, literal_step, text_step, oper_step, kind_step, step}
-use Rattle.verb_syntax.proofs.Tests.{bool_cases, no_some, at_some, if_some}
+use Rattle.verb_syntax.proofs.Basics.{bool_cases, no_some, at_some, if_some}
 
 abbrev pub Kept : ℕ → Mode → List Frame → Type 0
 Kept most Mode.Want fs = Unit {0}
@@ -35,13 +35,13 @@ settle_levels : (rule start : ℕ) (a : Term) (fs : List Frame) → levels (sett
 settle_levels rule start a [] = omega arith
 settle_levels rule start a (Frame.Right op at b ∷ fs) =
     elim (bool_cases (leb rule (binary_rule op))) [
-        inl e ↦ rw e (let h = settle_levels rule at (binary_term at op b a) fs in omega arith)
-        | inr e ↦ rw e (omega arith)
+      | inl e ↦ rw e (let h = settle_levels rule at (binary_term at op b a) fs in omega arith)
+      | inr e ↦ rw e (omega arith)
     ]
 settle_levels rule start a (Frame.Under op at ∷ fs) =
     elim (bool_cases (leb rule (prefix_rule op))) [
-        inl e ↦ rw e (let h = settle_levels rule at (unary_term at op a) fs in omega arith)
-        | inr e ↦ rw e (omega arith)
+      | inl e ↦ rw e (let h = settle_levels rule at (unary_term at op a) fs in omega arith)
+      | inr e ↦ rw e (omega arith)
     ]
 settle_levels rule start a (frame ∷ fs) = omega arith
 
@@ -56,8 +56,8 @@ settled_levels : (mode : Mode) (fs : List Frame) (h : Held)
     → (held mode fs >>= λ x. Some (settle 0 x.start x.term x.frames)) ≡ Some h → levels h.frames ≤ levels fs
 settled_levels mode fs h e =
     option_and_then_some {P = levels h.frames ≤ levels fs} (λ x. Some (settle 0 x.start x.term x.frames)) (held mode fs) h e
-        (λ x ex ey. at_some (λ (y : Held). levels y.frames ≤ levels fs) (settle 0 x.start x.term x.frames) h ey
-            (let p = settle_levels 0 x.start x.term x.frames in let q = held_levels mode fs x ex in omega arith))
+    (λ x ex ey. at_some (λ (y : Held). levels y.frames ≤ levels fs) (settle 0 x.start x.term x.frames) h ey
+    (let p = settle_levels 0 x.start x.term x.frames in let q = held_levels mode fs x ex in omega arith))
 
 whole_levels : (mode : Mode) (fs : List Frame) (h : Held) → whole mode fs ≡ Some h → levels h.frames ≤ levels fs
 whole_levels (Mode.Piping n at calls) fs h e =
@@ -70,7 +70,7 @@ argument_levels start a (Frame.Args n at args ∷ fs) p e =
     at_some (λ (x : Pending). levels x.frames ≤ levels (Frame.Args n at args ∷ fs)) (pending_of n at (args ++ arg_of None start a ∷ []) fs) p e (omega arith)
 argument_levels start a (Frame.Label label low ∷ Frame.Args n at args ∷ fs) p e =
     at_some (λ (x : Pending). levels x.frames ≤ levels (Frame.Label label low ∷ Frame.Args n at args ∷ fs))
-        (pending_of n at (args ++ arg_of (Some label) low a ∷ []) fs) p e (omega arith)
+    (pending_of n at (args ++ arg_of (Some label) low a ∷ []) fs) p e (omega arith)
 argument_levels start a [] p e = no_some e
 argument_levels start a _ p e = no_some e
 
@@ -83,8 +83,8 @@ closed_kept : (most start : ℕ) (a : Term) (fs : List Frame) (next : State) →
     → (argument start a fs >>= λ p. Some (called p.name p.at p.args p.frames)) ≡ Some next → KeptAt most next
 closed_kept most start a fs next le e =
     option_and_then_some {P = KeptAt most next} (λ p. Some (called p.name p.at p.args p.frames)) (argument start a fs) next e
-        (λ p ep eq. at_some (KeptAt most) (called p.name p.at p.args p.frames) next eq
-            (called_kept most p.name p.at p.args p.frames (let q = argument_levels start a fs p ep in omega arith)))
+    (λ p ep eq. at_some (KeptAt most) (called p.name p.at p.args p.frames) next eq
+    (called_kept most p.name p.at p.args p.frames (let q = argument_levels start a fs p ep in omega arith)))
 
 value_kept : (most start : ℕ) (a : Term) (fs : List Frame) (next : State) → levels fs ≤ most → close_value start a fs ≡ Some next
     → KeptAt most next
@@ -96,12 +96,12 @@ whole_kept : (mode : Mode) (fs : List Frame) (next : State) → (whole mode fs >
     → KeptAt (levels fs) next
 whole_kept mode fs next e =
     option_and_then_some {P = KeptAt (levels fs) next} (λ h. close_value h.start h.term h.frames) (whole mode fs) next e
-        (λ h eh eq. value_kept (levels fs) h.start h.term h.frames next (whole_levels mode fs h eh) eq)
+    (λ h eh eq. value_kept (levels fs) h.start h.term h.frames next (whole_levels mode fs h eh) eq)
 
 bare_kept : (fs : List Frame) (next : State) → close_bare fs ≡ Some next → KeptAt (levels fs) next
 bare_kept (Frame.Args n at [] ∷ fs) next e =
     at_some (KeptAt (levels (Frame.Args n at [] ∷ fs))) (called n at [] fs) next e
-        (called_kept (levels (Frame.Args n at [] ∷ fs)) n at [] fs (omega arith))
+    (called_kept (levels (Frame.Args n at [] ∷ fs)) n at [] fs (omega arith))
 bare_kept (Frame.Args n at (x ∷ xs) ∷ fs) next e = no_some e
 bare_kept [] next e = no_some e
 bare_kept _ next e = no_some e
@@ -145,9 +145,9 @@ operator_kept op at mode fs next e = go mode e
     go : (m : Mode) → infix_step op m fs ≡ Some next → KeptAt (levels fs) next
     go m h =
         option_and_then_some {P = KeptAt (levels fs) next} (λ x. placed op (settle (left_rule op) x.start x.term x.frames)) (held m fs) next h
-            (λ x ex ep.
-                let s = settle (left_rule op) x.start x.term x.frames in
-                want_kept (levels fs) (ltb (binary_rule op) 10 && leb (need s.frames) (binary_rule op)) (Frame.Right op s.start s.term ∷ s.frames) next ep)
+        (λ x ex ep.
+        let s = settle (left_rule op) x.start x.term x.frames in
+        want_kept (levels fs) (ltb (binary_rule op) 10 && leb (need s.frames) (binary_rule op)) (Frame.Right op s.start s.term ∷ s.frames) next ep)
 
 open_kept : (at : ℕ) (mode : Mode) (fs : List Frame) (next : State) → open_step at mode fs ≡ Some next → KeptAt (levels fs) next
 open_kept at Mode.Want fs next e = want_kept (levels fs) (leb (need fs) 10) (Frame.Paren at ∷ fs) next e
@@ -162,9 +162,9 @@ open_kept at _ fs next e = no_some e
 comma_kept : (mode : Mode) (fs : List Frame) (next : State) → comma_step mode fs ≡ Some next → KeptAt (levels fs) next
 comma_kept mode fs next e =
     option_and_then_some {P = KeptAt (levels fs) next}
-        (λ h. argument h.start h.term h.frames >>= λ p. want (Frame.Args p.name p.at p.args ∷ p.frames)) (whole mode fs) next e
-        (λ h eh eq. option_and_then_some {P = KeptAt (levels fs) next} (λ p. want (Frame.Args p.name p.at p.args ∷ p.frames)) (argument h.start h.term h.frames) next eq
-            (λ p ep er. at_some (KeptAt (levels fs)) (state_of Mode.Want (Frame.Args p.name p.at p.args ∷ p.frames)) next er tt))
+    (λ h. argument h.start h.term h.frames >>= λ p. want (Frame.Args p.name p.at p.args ∷ p.frames)) (whole mode fs) next e
+    (λ h eh eq. option_and_then_some {P = KeptAt (levels fs) next} (λ p. want (Frame.Args p.name p.at p.args ∷ p.frames)) (argument h.start h.term h.frames) next eq
+    (λ p ep er. at_some (KeptAt (levels fs)) (state_of Mode.Want (Frame.Args p.name p.at p.args ∷ p.frames)) next er tt))
 
 label_kept : (mode : Mode) (fs : List Frame) (next : State) → label_step mode fs ≡ Some next → KeptAt (levels fs) next
 label_kept (Mode.Named n at) fs next e = want_kept (levels fs) (is_args fs) (Frame.Label n at ∷ fs) next e
@@ -183,7 +183,7 @@ assign_kept _ fs next e = no_some e
 stored_kept : (p : Pipe) (fs : List Frame) (next : State) → stored p fs ≡ Some next → KeptAt (levels fs) next
 stored_kept p (Frame.Target n ∷ Frame.Body assigns ∷ fs) next e =
     at_some (KeptAt (levels (Frame.Target n ∷ Frame.Body assigns ∷ fs)))
-        (state_of Mode.Want (Frame.Body (assigns ++ (n, p) ∷ []) ∷ fs)) next e tt
+    (state_of Mode.Want (Frame.Body (assigns ++ (n, p) ∷ []) ∷ fs)) next e tt
 stored_kept p (Frame.Body assigns ∷ fs) next e =
     at_some (KeptAt (levels (Frame.Body assigns ∷ fs))) (state_of (Mode.Last p) (Frame.Body assigns ∷ fs)) next e (omega arith)
 stored_kept p [] next e = no_some e

@@ -1,4 +1,4 @@
-pub mod Tests
+pub mod Basics
 pub mod Settles
 pub mod Complete
 pub mod Derived

@@ -8,7 +8,7 @@ use Rattle.verb_syntax.specs.Trees.{binary_term, unary_term}
 use Rattle.verb_syntax.specs.Grammar.{binary_rule, left_rule, prefix_rule}
 use Rattle.verb_syntax.specs.Levels.{need}
 use Rattle.verb_syntax.specs.Machine.{settle, held_of}
-use Rattle.verb_syntax.proofs.Tests.{leb_true, leb_false, le_cases}
+use Rattle.verb_syntax.proofs.Basics.{leb_true, leb_false, le_cases}
 
 pub left_ge : (op : Oper) → binary_rule op ≤ left_rule op
 left_ge Oper.Tilde = omega arith
@@ -25,6 +25,7 @@ apart op other h e = go op other h e
     rules : (op : Oper) → binary_rule op < 10 → (binary_rule op < 9) × (binary_rule op ≡ 3 → ⊥)
     rules Oper.Tilde h = (omega arith, λ e. omega arith)
     rules _ h = (omega arith, λ e. omega arith)
+
     go : (op other : Oper) → binary_rule op < 10 → prefix_rule other ≡ binary_rule op → ⊥
     go op Oper.Not h e = (rules op h).1 (sym e)
     go op _ h e = omega (arith, (rules op h).0)
@@ -64,17 +65,17 @@ pub settle-settle : (rule tight : ℕ) → rule ≤ tight → (start : ℕ) (a :
 settle-settle rule tight le start a [] = refl
 settle-settle rule tight le start a (Frame.Right op at b ∷ frames) =
     elim (le_cases tight (binary_rule op)) [
-        inl q ↦ let p : rule ≤ binary_rule op = omega arith in
-            rw (leb_true tight (binary_rule op) q, leb_true rule (binary_rule op) p)
-                (settle-settle rule tight le at (binary_term at op b a) frames)
-        | inr q ↦ rw (leb_false tight (binary_rule op) q) refl
+      | inl q ↦ let p : rule ≤ binary_rule op = omega arith in
+          rw (leb_true tight (binary_rule op) q, leb_true rule (binary_rule op) p)
+          (settle-settle rule tight le at (binary_term at op b a) frames)
+      | inr q ↦ rw (leb_false tight (binary_rule op) q) refl
     ]
 settle-settle rule tight le start a (Frame.Under op at ∷ frames) =
     elim (le_cases tight (prefix_rule op)) [
-        inl q ↦ let p : rule ≤ prefix_rule op = omega arith in
-            rw (leb_true tight (prefix_rule op) q, leb_true rule (prefix_rule op) p)
-                (settle-settle rule tight le at (unary_term at op a) frames)
-        | inr q ↦ rw (leb_false tight (prefix_rule op) q) refl
+      | inl q ↦ let p : rule ≤ prefix_rule op = omega arith in
+          rw (leb_true tight (prefix_rule op) q, leb_true rule (prefix_rule op) p)
+          (settle-settle rule tight le at (unary_term at op a) frames)
+      | inr q ↦ rw (leb_false tight (prefix_rule op) q) refl
     ]
 settle-settle rule tight le start a _ = refl
 
@@ -83,4 +84,4 @@ pub settle_loosens : (rule tight : ℕ) → rule ≤ tight → (h : Held) (start
     → settle_held tight h ≡ settle tight start a frames → settle_held rule h ≡ settle rule start a frames
 settle_loosens rule tight le h start a frames e =
     sym (settle-settle rule tight le h.start h.term h.frames)
-        ∙ (ap (settle_held rule) e ∙ settle-settle rule tight le start a frames)
+    ∙ (ap (settle_held rule) e ∙ settle-settle rule tight le start a frames)

@@ -43,4 +43,4 @@ abbrev mutual
 abbrev pub CountsOperators : Type 0
 CountsOperators =
     (ts rest : List Token) (a : Term) (d : Whole ts a rest) (depth count : ℕ) → 1 ≤ depth
-        → operators_from depth false count ts ≡ operators_from depth true (count + applied_whole d) rest
+    → operators_from depth false count ts ≡ operators_from depth true (count + applied_whole d) rest

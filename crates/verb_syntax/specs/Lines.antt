@@ -32,7 +32,7 @@ abbrev pub unpassed : ℕ → Bool → List Token → List Token
 unpassed depth after [] = []
 unpassed depth after (token ∷ tokens) =
     cond (is_passed token.kind depth after) (unpassed depth after tokens)
-        (token ∷ unpassed (deeper token.kind depth) (goes_on token.kind) tokens)
+    (token ∷ unpassed (deeper token.kind depth) (goes_on token.kind) tokens)
 
 -- the tokens of a script that the grammar is about
 abbrev pub read : List Token → List Token

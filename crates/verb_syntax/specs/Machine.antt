@@ -41,10 +41,10 @@ pending_of name at args frames = record { name = name; at = at; args = args; fra
 abbrev pub settle : ℕ → ℕ → Term → List Frame → Held
 settle rule start term (Frame.Right op at left ∷ frames) =
     cond (nat_le rule (binary_rule op)) (settle rule at (binary_term at op left term) frames)
-        (held_of start term (Frame.Right op at left ∷ frames))
+    (held_of start term (Frame.Right op at left ∷ frames))
 settle rule start term (Frame.Under op at ∷ frames) =
     cond (nat_le rule (prefix_rule op)) (settle rule at (unary_term at op term) frames)
-        (held_of start term (Frame.Under op at ∷ frames))
+    (held_of start term (Frame.Under op at ∷ frames))
 settle rule start term frames = held_of start term frames
 
 -- the expression that is read
@@ -58,7 +58,7 @@ held _ frames = None
 abbrev pub placed : Oper → Held → Option State
 placed op h =
     cond (nat_lt (binary_rule op) 10 && nat_le (need h.frames) (binary_rule op))
-        (want (Frame.Right op h.start h.term ∷ h.frames)) None
+    (want (Frame.Right op h.start h.term ∷ h.frames)) None
 
 abbrev pub infix_step : Oper → Mode → List Frame → Option State
 infix_step op mode frames = held mode frames >>= λ h. placed op (settle (left_rule op) h.start h.term h.frames)
@@ -85,7 +85,7 @@ abbrev pub open_step : ℕ → Mode → List Frame → Option State
 open_step at Mode.Want frames = cond (nat_le (need frames) 10) (want (Frame.Paren at ∷ frames)) None
 open_step at (Mode.Named name begin) frames =
     cond (takes_call frames) (want (Frame.Args name begin [] ∷ frames))
-        (cond (is_body frames && bytes_eq name (codes "library")) (Some (state_of Mode.Library frames)) None)
+    (cond (is_body frames && bytes_eq name (codes "library")) (Some (state_of Mode.Library frames)) None)
 open_step at _ frames = None
 
 -- the value of an argument, or an expression in parentheses, that is read whole

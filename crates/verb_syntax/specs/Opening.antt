@@ -16,4 +16,4 @@ OpenOne = (tokens : List Token) (a b : List Frame) → Opens tokens a [] → Ope
 abbrev pub OpensAll : Type 0
 OpensAll =
     (front : List Token) (token : Token) (number : ℤ) → token.kind ≡ TokenKind.Whole number → Begins (front ++ token ∷ [])
-        → (frames : List Frame) × Opens (read front) frames []
+    → (frames : List Frame) × Opens (read front) frames []

@@ -29,13 +29,13 @@ AllShallow tokens = (front rest : List Token) → tokens ≡ front ++ rest → I
 abbrev pub IsUnexpected : List Token → ℕ → Type 0
 IsUnexpected tokens at =
     (front : List Token) × (token : Token) × (rest : List Token) × (tokens ≡ front ++ token ∷ rest) × Begins front
-        × AllShallow front × (Begins (front ++ token ∷ []) → ⊥) × (at ≡ token.from)
+    × AllShallow front × (Begins (front ++ token ∷ []) → ⊥) × (at ≡ token.from)
 
 -- the first fault is a token with which a script goes on, but with a level or an operator too many
 abbrev pub IsTooDeep : List Token → ℕ → Type 0
 IsTooDeep tokens at =
     (front : List Token) × (token : Token) × (rest : List Token) × (tokens ≡ front ++ token ∷ rest) × AllShallow front
-        × Begins (front ++ token ∷ []) × IsDeep (front ++ token ∷ []) × (at ≡ token.from)
+    × Begins (front ++ token ∷ []) × IsDeep (front ++ token ∷ []) × (at ≡ token.from)
 
 -- the tokens begin a script and are none
 abbrev pub IsUnfinished : List Token → Type 0

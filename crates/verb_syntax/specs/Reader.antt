@@ -13,15 +13,18 @@ use Rattle.verb_syntax.specs.Machine.{step}
 -- behind a token in this state
 abbrev pub reader_at : Token → Reader → State → Reader
 reader_at token reader state = record {
-    state = state; depth = deeper token.kind reader.depth; goes_on = goes_on token.kind;
-    whole = ends_operand token.kind; count = count_at token.kind reader.depth reader.whole reader.count
+  state = state;
+  depth = deeper token.kind reader.depth;
+  goes_on = goes_on token.kind;
+  whole = ends_operand token.kind;
+  count = count_at token.kind reader.depth reader.whole reader.count;
 }
 
 -- within the limits
 abbrev pub limited : Token → Reader → Result Reader SyntaxFault
 limited token next =
     cond (nat_lt 128 (levels next.state.frames) || nat_lt 1024 next.count)
-        (Err (record { kind = SyntaxKind.TooDeep; at = token.from })) (Ok next)
+    (Err (record { kind = SyntaxKind.TooDeep; at = token.from })) (Ok next)
 
 abbrev pub moved : Token → Reader → Option State → Result Reader SyntaxFault
 moved token reader None = Err (record { kind = SyntaxKind.Unexpected; at = token.from })

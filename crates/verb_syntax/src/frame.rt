@@ -39,7 +39,6 @@ impl Model for Frames {
     ghost use Rattle.std.specs.Prelude.{List, reverse, ◌≡◌};
     ghost use Rattle.verb_syntax.specs.declared.frame.Frame.{Frame as Unfinished};
     ghost use Rattle.verb_syntax.specs.Levels.{levels as levels_of};
-
     ghost use Rattle.verb_syntax.specs.contracts.frame.Frame as unfinished;
     ghost use Rattle.std.specs.Coded.{coded_list};
 

@@ -186,13 +186,16 @@ fn read(alloc: Global, token: &Token, reader: Reader) -> Res<Reader, SyntaxFault
         });
     }
     match advanced(alloc, token, state) {
-        Ok(state) => within(token, Reader {
-            state,
-            depth: depth_behind(&token.kind, depth),
-            goes_on: line_goes_on(&token.kind),
-            whole: operand_ends(&token.kind),
-            count: count_behind(&token.kind, depth, whole, count),
-        }),
+        Ok(state) => within(
+            token,
+            Reader {
+                state,
+                depth: depth_behind(&token.kind, depth),
+                goes_on: line_goes_on(&token.kind),
+                whole: operand_ends(&token.kind),
+                count: count_behind(&token.kind, depth, whole, count),
+            },
+        ),
         Err(Or::Fault(_)) => Err(Or::Fault(SyntaxFault {
             kind: SyntaxKind::Unexpected,
             at: token.from,

@@ -60,10 +60,7 @@ pub fn need_of(frames: &Frames) -> u8
         Some(Frame::Under(op, _)) => prefix_of(*op),
         Some(Frame::Paren(_)) => 1,
         Some(Frame::Args(_, _, _)) | Some(Frame::Label(_, _)) => 0,
-        Some(Frame::Piped(_, _, _))
-        | Some(Frame::Target(_))
-        | Some(Frame::Body(_))
-        | None => 11,
+        Some(Frame::Piped(_, _, _)) | Some(Frame::Target(_)) | Some(Frame::Body(_)) | None => 11,
     }
 }
 

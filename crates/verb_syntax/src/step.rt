@@ -54,11 +54,19 @@ fn settled(alloc: Global, rule: u8, held: Held) -> Mem<Held>
             }
             other => {
                 frames.push(other)?;
-                return Ok(Held { start, term, frames });
+                return Ok(Held {
+                    start,
+                    term,
+                    frames,
+                });
             }
         }
     }
-    Ok(Held { start, term, frames })
+    Ok(Held {
+        start,
+        term,
+        frames,
+    })
 }
 
 /// The expression that is read, and none where there is none.
@@ -82,7 +90,11 @@ fn held_in(mode: Mode, frames: Frames) -> Res<Held, Refused>
             },
             frames,
         }),
-        Mode::Have(start, term) => Ok(Held { start, term, frames }),
+        Mode::Have(start, term) => Ok(Held {
+            start,
+            term,
+            frames,
+        }),
         Mode::Named(_, _)
         | Mode::Want
         | Mode::Piping(_, _, _)
@@ -217,7 +229,12 @@ fn whole_in(alloc: Global, mode: Mode, frames: Frames) -> Res<Held, Refused>
     }
 }
 
-fn labelled_argument(label: Text, begin: u32, term: Term, mut frames: Frames) -> Res<Pending, Refused>
+fn labelled_argument(
+    label: Text,
+    begin: u32,
+    term: Term,
+    mut frames: Frames,
+) -> Res<Pending, Refused>
     ensures { GivesSome result (argument begin term (Frame.Label label begin ∷ frames)) }
 {
     match frames.pop() {
@@ -312,12 +329,24 @@ fn call_ends(pending: Pending) -> Mem<State>
         Some(other) => {
             frames.push(other)?;
             Ok(State {
-                mode: Mode::Have(at, Term { at, kind: TermKind::Call(call) }),
+                mode: Mode::Have(
+                    at,
+                    Term {
+                        at,
+                        kind: TermKind::Call(call),
+                    },
+                ),
                 frames,
             })
         }
         None => Ok(State {
-            mode: Mode::Have(at, Term { at, kind: TermKind::Call(call) }),
+            mode: Mode::Have(
+                at,
+                Term {
+                    at,
+                    kind: TermKind::Call(call),
+                },
+            ),
             frames,
         }),
     }
@@ -694,7 +723,10 @@ fn finish_body(pipe: Pipe, mut frames: Frames) -> Res<Script, Refused>
     ensures { GivesSome result (finished pipe frames) }
 {
     match frames.pop() {
-        Some(Frame::Body(assigns)) => Ok(Script { assigns, last: pipe }),
+        Some(Frame::Body(assigns)) => Ok(Script {
+            assigns,
+            last: pipe,
+        }),
         Some(Frame::Right(_, _, _))
         | Some(Frame::Under(_, _))
         | Some(Frame::Paren(_))

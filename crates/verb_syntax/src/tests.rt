@@ -122,7 +122,13 @@ fn read(alloc: Global, script: &str, places: bool) -> Result<String, Fail> {
     }
 }
 
-fn repeated(alloc: Global, first: &str, part: &str, times: u32, last: &str) -> Result<String, AllocError> {
+fn repeated(
+    alloc: Global,
+    first: &str,
+    part: &str,
+    times: u32,
+    last: &str,
+) -> Result<String, AllocError> {
     let mut out = String::from_str(alloc, first)?;
     for _ in 0..times {
         out.push_str(part)?;
@@ -138,21 +144,51 @@ fn each_production_gives_its_tree(rt: HostRuntime) -> Result<(), Fail> {
         ("\n;t;\n\n", "t"),
         ("t |> head()", "t |> head()"),
         ("t %>% f() |>\n g()", "t |> f() |> g()"),
-        ("library(dplyr)\nlibrary(tidyr);library(lubridate)\nlibrary(tidyverse)\nt", "t"),
+        (
+            "library(dplyr)\nlibrary(tidyr);library(lubridate)\nlibrary(tidyverse)\nt",
+            "t",
+        ),
         ("library |> f()", "library |> f()"),
         ("r <-\n t |> f(x)\ns <- r; s", "r <- t |> f(x); s <- r; s"),
         ("t |> f(\n x,\n y\n)", "t |> f(x, y)"),
-        ("t |> f(n = 1, \"m\" = 'x', b = u |> g())", "t |> f(n = 1, m = 'x', b = [u |> g()])"),
-        ("t |> f(u |> g(v |> h()) |> k(), 'a' == b)", "t |> f([u |> g([v |> h()]) |> k()], ('a' == b))"),
-        ("t |> f(TRUE, NA, NA_integer_, 1.5, 5L, \"s\")", "t |> f(TRUE, NA, NA_integer_, 1500000u, 5, 's')"),
-        ("t |> f(a + b - c * d / e)", "t |> f(((a + b) - ((c * d) / e)))"),
-        ("t |> f(a %% b %/% c %in% c(1, 2))", "t |> f((((a %% b) %/% c) %in% c(1, 2)))"),
+        (
+            "t |> f(n = 1, \"m\" = 'x', b = u |> g())",
+            "t |> f(n = 1, m = 'x', b = [u |> g()])",
+        ),
+        (
+            "t |> f(u |> g(v |> h()) |> k(), 'a' == b)",
+            "t |> f([u |> g([v |> h()]) |> k()], ('a' == b))",
+        ),
+        (
+            "t |> f(TRUE, NA, NA_integer_, 1.5, 5L, \"s\")",
+            "t |> f(TRUE, NA, NA_integer_, 1500000u, 5, 's')",
+        ),
+        (
+            "t |> f(a + b - c * d / e)",
+            "t |> f(((a + b) - ((c * d) / e)))",
+        ),
+        (
+            "t |> f(a %% b %/% c %in% c(1, 2))",
+            "t |> f((((a %% b) %/% c) %in% c(1, 2)))",
+        ),
         ("t |> f(a | b & c | d)", "t |> f(((a | (b & c)) | d))"),
         ("t |> f(!a == b & !!c)", "t |> f(((!(a == b)) & (!(!c))))"),
-        ("t |> f(-2:3, 2:-3, --x * y)", "t |> f(((-2) : 3), (2 : (-3)), ((-(-x)) * y))"),
-        ("t |> f(a < b, a <= b, a > b, a >= b, a != b)", "t |> f((a < b), (a <= b), (a > b), (a >= b), (a != b))"),
-        ("t |> f(x > 1 ~ 'p', a - (b - c))", "t |> f(((x > 1) ~ 'p'), (a - (b - c)))"),
-        ("t |> f((x), g((1 + 2) * 3)(y))", "unexpected token at byte 26"),
+        (
+            "t |> f(-2:3, 2:-3, --x * y)",
+            "t |> f(((-2) : 3), (2 : (-3)), ((-(-x)) * y))",
+        ),
+        (
+            "t |> f(a < b, a <= b, a > b, a >= b, a != b)",
+            "t |> f((a < b), (a <= b), (a > b), (a >= b), (a != b))",
+        ),
+        (
+            "t |> f(x > 1 ~ 'p', a - (b - c))",
+            "t |> f(((x > 1) ~ 'p'), (a - (b - c)))",
+        ),
+        (
+            "t |> f((x), g((1 + 2) * 3)(y))",
+            "unexpected token at byte 26",
+        ),
     ];
     for (script, tree) in rows {
         assert_eq!(rt; read(rt.alloc(), script, false)?.as_str(), tree, "{script}");
@@ -165,7 +201,10 @@ fn each_part_stands_at_its_first_token(rt: HostRuntime) -> Result<(), Fail> {
     let rows = [
         ("t |> f(n = x + 1)", "0:t |> 5:f(7:n = 11:(11:x + 15:1))"),
         ("t |> f((x) + 1, ((y)))", "0:t |> 5:f(7:(8:x + 13:1), 18:y)"),
-        ("t |> f(-x * g(2))", "0:t |> 5:f(7:(7:(-8:x) * 12:12:g(14:2)))"),
+        (
+            "t |> f(-x * g(2))",
+            "0:t |> 5:f(7:(7:(-8:x) * 12:12:g(14:2)))",
+        ),
         ("t |> f(u |> g())", "0:t |> 5:f(7:[7:u |> 12:g()])"),
         ("a <- b\n  c |> f()", "a <- 5:b; 9:c |> 14:f()"),
     ];
@@ -213,7 +252,11 @@ fn each_first_fault_stands_at_its_place(rt: HostRuntime) -> Result<(), Fail> {
         ("TRUE <- t; t", "unexpected token at byte 0"),
     ];
     for (script, fault) in rows {
-        assert_eq!(rt; read(rt.alloc(), script, false)?.as_str(), fault, "{script}");
+        assert_eq!(rt;
+            read(rt.alloc(), script, false)?.as_str(),
+            fault,
+            "{script}"
+        );
     }
     Ok(())
 }
@@ -222,20 +265,59 @@ fn each_first_fault_stands_at_its_place(rt: HostRuntime) -> Result<(), Fail> {
 fn the_limits_hold(rt: HostRuntime) -> Result<(), Fail> {
     let alloc = rt.alloc();
     let rows = [
-        (repeated(alloc, "t |> filter(", "(", 128, "")?, "nested too deep at byte 139"),
-        (repeated(alloc, "t |> filter(", "(", 127, "")?, "unfinished script at byte 139"),
-        (repeated(alloc, "t |> filter(", "-", 128, "x)")?, "nested too deep at byte 139"),
-        (repeated(alloc, "t |> filter(", "!", 127, ";")?, "unexpected token at byte 139"),
-        (repeated(alloc, "t |> f(", "1+", 1025, "1)")?, "nested too deep at byte 2056"),
-        (repeated(alloc, "t |> f(", "1+", 1024, "")?, "unfinished script at byte 2055"),
-        (repeated(alloc, repeated(alloc, "t |> f(", "1+", 1024, "1, ")?.as_str(), "1|", 1024, "")?, "unfinished script at byte 4106"),
-        (repeated(alloc, repeated(alloc, "t |> f(g(", "1+", 512, "1, ")?.as_str(), "1|", 513, "1))")?, "nested too deep at byte 2061"),
+        (
+            repeated(alloc, "t |> filter(", "(", 128, "")?,
+            "nested too deep at byte 139",
+        ),
+        (
+            repeated(alloc, "t |> filter(", "(", 127, "")?,
+            "unfinished script at byte 139",
+        ),
+        (
+            repeated(alloc, "t |> filter(", "-", 128, "x)")?,
+            "nested too deep at byte 139",
+        ),
+        (
+            repeated(alloc, "t |> filter(", "!", 127, ";")?,
+            "unexpected token at byte 139",
+        ),
+        (
+            repeated(alloc, "t |> f(", "1+", 1025, "1)")?,
+            "nested too deep at byte 2056",
+        ),
+        (
+            repeated(alloc, "t |> f(", "1+", 1024, "")?,
+            "unfinished script at byte 2055",
+        ),
+        (
+            repeated(
+                alloc,
+                repeated(alloc, "t |> f(", "1+", 1024, "1, ")?.as_str(),
+                "1|",
+                1024,
+                "",
+            )?,
+            "unfinished script at byte 4106",
+        ),
+        (
+            repeated(
+                alloc,
+                repeated(alloc, "t |> f(g(", "1+", 512, "1, ")?.as_str(),
+                "1|",
+                513,
+                "1))",
+            )?,
+            "nested too deep at byte 2061",
+        ),
     ];
     for (script, fault) in rows {
         assert_eq!(rt; read(alloc, script.as_str(), false)?.as_str(), fault);
     }
     let open = repeated(alloc, "t |> filter(", "(", 127, "x > 5")?;
     let closed = repeated(alloc, open.as_str(), ")", 128, "")?;
-    assert_eq!(rt; read(alloc, closed.as_str(), false)?.as_str(), "t |> filter((x > 5))");
+    assert_eq!(rt;
+        read(alloc, closed.as_str(), false)?.as_str(),
+        "t |> filter((x > 5))"
+    );
     Ok(())
 }
