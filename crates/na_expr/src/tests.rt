@@ -1,5 +1,6 @@
 use super::*;
 use row_table::{Field, Row, Schema};
+use scalar_fns::read_day;
 use scalar_value::{ColType, Dec6, Mem, Seq, Text, Value};
 use std::alloc::Global;
 use std::test::Fail;
@@ -19,183 +20,137 @@ fn literal(v: Value) -> Expr {
     Expr::Lit(v, kind)
 }
 
-fn dec(text: &str) -> Value {
-    match Dec6::parse(text) {
-        Some(number) => Value::Dec(number),
-        None => Value::Missing,
+/// The value of a word: `NA`, a truth value, a whole number, a decimal with a point, a date, or else a text.
+fn value(alloc: Global, word: &str) -> Mem<Value> {
+    match word {
+        "NA" => return Ok(Value::Missing),
+        "TRUE" => return Ok(Value::Lgl(true)),
+        "FALSE" => return Ok(Value::Lgl(false)),
+        _ => {}
+    }
+    if let Ok(number) = word.parse::<i64>() {
+        return Ok(Value::Int(number));
+    }
+    match (Dec6::parse(word), read_day(word)) {
+        (Some(number), _) => Ok(Value::Dec(number)),
+        (None, Some(day)) => Ok(Value::Day(day)),
+        (None, None) => Ok(Value::Chr(Text::of(alloc, word)?)),
     }
 }
 
-fn call(alloc: Global, function: ExprFn, values: Vec<Value>) -> Mem<Value> {
+fn called(alloc: Global, function: ExprFn, words: [&str; 4]) -> Mem<Value> {
     let mut args = Seq::new(alloc);
-    for value in values {
-        args.push(literal(value))?;
+    for word in words {
+        if !word.is_empty() {
+            args.push(literal(value(alloc, word)?))?;
+        }
     }
     eval_row(alloc, &Expr::Call(function, args), &Seq::new(alloc))
 }
 
 #[test]
-fn logic(rt: HostRuntime) -> Result<(), Fail> {
-    let (yes, no, na) = (Some(true), Some(false), None);
+fn values(rt: HostRuntime) -> Result<(), Fail> {
     let rows = [
-        (ExprFn::And, na, no, no),
-        (ExprFn::And, na, yes, na),
-        (ExprFn::And, yes, yes, yes),
-        (ExprFn::Or, na, yes, yes),
-        (ExprFn::Or, na, no, na),
-        (ExprFn::Or, no, no, no),
-        (ExprFn::Eq, na, na, na),
-        (ExprFn::Eq, no, no, yes),
-        (ExprFn::IsIn, na, na, yes),
-        (ExprFn::IsIn, na, no, no),
+        (ExprFn::Neg, ["-9223372036854775808", "", "", ""], "NA"),
+        (ExprFn::Add, ["9999-12-31", "1", "", ""], "NA"),
+        (ExprFn::Add, ["1", "2024-02-28", "", ""], "2024-02-29"),
+        (ExprFn::Sub, ["2024-03-01", "1", "", ""], "2024-02-29"),
+        (ExprFn::Sub, ["2024-03-01", "2024-02-28", "", ""], "2"),
+        (ExprFn::FloorDiv, ["7", "-2", "", ""], "-4"),
+        (ExprFn::Mod, ["7", "-2", "", ""], "-1"),
+        (ExprFn::Div, ["2", "3", "", ""], "0.666667"),
+        (ExprFn::Lt, ["1", "1.5", "", ""], "TRUE"),
+        (ExprFn::Eq, ["NA", "NA", "", ""], "NA"),
+        (ExprFn::Ge, ["b", "a", "", ""], "TRUE"),
+        (ExprFn::Not, ["NA", "", "", ""], "NA"),
+        (ExprFn::And, ["NA", "FALSE", "", ""], "FALSE"),
+        (ExprFn::And, ["NA", "TRUE", "", ""], "NA"),
+        (ExprFn::Or, ["NA", "TRUE", "", ""], "TRUE"),
+        (ExprFn::Or, ["NA", "FALSE", "", ""], "NA"),
+        (ExprFn::IsIn, ["NA", "10", "NA", ""], "TRUE"),
+        (ExprFn::IsIn, ["NA", "10", "", ""], "FALSE"),
+        (ExprFn::IsNa, ["NA", "", "", ""], "TRUE"),
+        (ExprFn::IfElse(ColType::Int), ["NA", "1", "2", ""], "NA"),
+        (
+            ExprFn::CaseWhen(ColType::Int),
+            ["FALSE", "1", "TRUE", "2"],
+            "2",
+        ),
+        (
+            ExprFn::CaseWhen(ColType::Dec),
+            ["NA", "1", "0.5", ""],
+            "0.5",
+        ),
+        (ExprFn::CaseWhen(ColType::Int), ["FALSE", "1", "", ""], "NA"),
+        (
+            ExprFn::Coalesce(ColType::Dec),
+            ["NA", "2", "1.5", ""],
+            "2.0",
+        ),
+        (ExprFn::Between, ["2", "1", "NA", ""], "NA"),
+        (ExprFn::Between, ["0", "1", "NA", ""], "FALSE"),
+        (ExprFn::Abs, ["-1.5", "", "", ""], "1.5"),
+        (ExprFn::Abs, ["-9223372036854775808", "", "", ""], "NA"),
+        (ExprFn::NChar, ["aé€b", "", "", ""], "4"),
+        (ExprFn::Substr, ["abc", "0", "2", ""], "ab"),
+        (ExprFn::ToUpper, ["aéZ1", "", "", ""], "AéZ1"),
+        (ExprFn::StartsWith, ["abc", "ab", "", ""], "TRUE"),
+        (ExprFn::EndsWith, ["abc", "ab", "", ""], "FALSE"),
+        (ExprFn::Paste0, ["a", "NA", "1.50", ""], "aNA1.5"),
+        (ExprFn::Month, ["2024-02-29", "", "", ""], "2"),
+        (ExprFn::Wday, ["2024-03-03", "", "", ""], "1"),
+        (ExprFn::AsInteger, ["-1.9", "", "", ""], "-1"),
+        (ExprFn::AsNumeric, ["7", "", "", ""], "7.0"),
     ];
-    for (function, a, b, expected) in rows {
-        let given = call(
-            rt.alloc(),
-            function,
-            vec![in rt.alloc(); truth(a), truth(b)]?,
-        )?;
-        assert_eq!(rt; given, truth(expected));
+    for (function, words, expected) in rows {
+        let given = called(rt.alloc(), function, words)?;
+        assert_eq!(rt; given, value(rt.alloc(), expected)?, "{expected}");
     }
     Ok(())
 }
 
-fn truth(value: Option<bool>) -> Value {
-    match value {
-        Some(truth) => Value::Lgl(truth),
-        None => Value::Missing,
+/// A call of these arguments.
+fn call(alloc: Global, function: ExprFn, a: Expr, b: Option<Expr>) -> Mem<Expr> {
+    let mut args = Seq::new(alloc);
+    args.push(a)?;
+    if let Some(b) = b {
+        args.push(b)?;
     }
+    Ok(Expr::Call(function, args))
 }
 
-#[test]
-fn functions(rt: HostRuntime) -> Result<(), Fail> {
-    let alloc = rt.alloc();
-    let last = Value::Day(2_932_896);
-    assert_eq!(rt;
-        call(alloc, ExprFn::Add, vec![in alloc; last, Value::Int(1)]?)?,
-        Value::Missing
-    );
-    assert_eq!(rt;
-        call(
-            alloc,
-            ExprFn::Sub,
-            vec![in alloc; Value::Day(3), Value::Day(1)]?
-        )?,
-        Value::Int(2)
-    );
-    assert_eq!(rt;
-        call(
-            alloc,
-            ExprFn::FloorDiv,
-            vec![in alloc; Value::Int(7), Value::Int(-2)]?
-        )?,
-        Value::Int(-4)
-    );
-    assert_eq!(rt;
-        call(
-            alloc,
-            ExprFn::Lt,
-            vec![in alloc; Value::Int(1), dec("1.5")]?
-        )?,
-        Value::Lgl(true)
-    );
-    assert_eq!(rt;
-        call(alloc, ExprFn::AsInteger, vec![in alloc; dec("-1.9")]?)?,
-        Value::Int(-1)
-    );
-    assert_eq!(rt;
-        call(alloc, ExprFn::Abs, vec![in alloc; Value::Int(i64::MIN)]?)?,
-        Value::Missing
-    );
-    assert_eq!(rt;
-        call(alloc, ExprFn::Wday, vec![in alloc; Value::Day(0)]?)?,
-        Value::Int(5)
-    );
-    let cases = vec![in alloc;
-        Value::Lgl(false),
-        Value::Int(1),
-        Value::Lgl(true),
-        Value::Int(2),
-    ]?;
-    assert_eq!(rt;
-        call(alloc, ExprFn::CaseWhen(ColType::Int), cases)?,
-        Value::Int(2)
-    );
-    let default = vec![in alloc; Value::Missing, Value::Int(1), dec("0.5")]?;
-    assert_eq!(rt;
-        call(alloc, ExprFn::CaseWhen(ColType::Dec), default)?,
-        dec("0.5")
-    );
-    let mixed = vec![in alloc; Value::Missing, Value::Int(2), dec("1.5")]?;
-    assert_eq!(rt;
-        call(alloc, ExprFn::Coalesce(ColType::Dec), mixed)?,
-        dec("2")
-    );
-    let pieces = vec![in alloc;
-        Value::Chr(Text::of(alloc, "a")?),
-        Value::Missing,
-        dec("1.50"),
-    ]?;
-    assert_eq!(rt;
-        call(alloc, ExprFn::Paste0, pieces)?,
-        Value::Chr(Text::of(alloc, "aNA1.5")?)
-    );
-    let part = vec![in alloc;
-        Value::Chr(Text::of(alloc, "a\u{e9}b")?),
-        Value::Int(0),
-        Value::Int(2),
-    ]?;
-    assert_eq!(rt;
-        call(alloc, ExprFn::Substr, part)?,
-        Value::Chr(Text::of(alloc, "a\u{e9}")?)
-    );
-    Ok(())
-}
-
-fn copied(args: &Seq<Expr>) -> Mem<Seq<Expr>> {
-    let mut made = Seq::new(args.alloc());
-    for arg in args.as_slice() {
-        made.push(arg.copy()?)?;
-    }
-    Ok(made)
-}
-
-#[test]
-fn types(rt: HostRuntime) -> Result<(), Fail> {
-    let alloc = rt.alloc();
+fn one_column(alloc: Global) -> Mem<Schema> {
     let mut schema: Schema = Seq::new(alloc);
     schema.push(Field {
         name: Text::of(alloc, "x")?,
         kind: ColType::Int,
     })?;
-    let mut args = Seq::new(alloc);
-    args.push(Expr::Col(0))?;
-    args.push(literal(dec("0.5")))?;
-    let sum = Expr::Call(ExprFn::Add, args);
-    assert_eq!(rt; type_of(&sum, &schema), Ok(ColType::Dec));
+    Ok(schema)
+}
+
+#[test]
+fn types(rt: HostRuntime) -> Result<(), Fail> {
+    let alloc = rt.alloc();
+    let schema = one_column(alloc)?;
+    let text = Expr::Lit(value(alloc, "a")?, ColType::Chr);
+    let faulty = call(alloc, ExprFn::Add, text, Some(Expr::Col(7)))?;
+    assert_eq!(rt; type_of(&faulty, &schema), Err(TypeFault::UnknownColumn));
+    let negation = call(alloc, ExprFn::Not, Expr::Col(0), None)?;
+    assert_eq!(rt; type_of(&negation, &schema), Err(TypeFault::WrongType));
+    let cases = call(alloc, ExprFn::CaseWhen(ColType::Int), Expr::Col(0), None)?;
+    assert_eq!(rt; type_of(&cases, &schema), Err(TypeFault::WrongArguments));
+    Ok(())
+}
+
+#[test]
+fn sum_on_a_row(rt: HostRuntime) -> Result<(), Fail> {
+    let alloc = rt.alloc();
+    let half = Expr::Lit(value(alloc, "0.5")?, ColType::Dec);
+    let sum = call(alloc, ExprFn::Add, Expr::Col(0), Some(half))?;
+    assert_eq!(rt; type_of(&sum, &one_column(alloc)?), Ok(ColType::Dec));
     let mut row: Row = Seq::new(alloc);
     row.push(Value::Int(2))?;
-    assert_eq!(rt; eval_row(alloc, &sum.copy()?, &row)?, dec("2.5"));
-    assert_eq!(rt;
-        type_of(&Expr::Col(1), &schema),
-        Err(TypeFault::UnknownColumn)
-    );
-    let mut faulty = Seq::new(alloc);
-    faulty.push(literal(Value::Chr(Text::of(alloc, "a")?)))?;
-    faulty.push(Expr::Col(7))?;
-    assert_eq!(rt;
-        type_of(&Expr::Call(ExprFn::Add, faulty), &schema),
-        Err(TypeFault::UnknownColumn)
-    );
-    let mut one = Seq::new(alloc);
-    one.push(Expr::Col(0))?;
-    assert_eq!(rt;
-        type_of(&Expr::Call(ExprFn::Not, copied(&one)?), &schema),
-        Err(TypeFault::WrongType)
-    );
-    assert_eq!(rt;
-        type_of(&Expr::Call(ExprFn::CaseWhen(ColType::Int), one), &schema),
-        Err(TypeFault::WrongArguments)
-    );
+    let given = eval_row(alloc, &sum.copy()?, &row)?;
+    assert_eq!(rt; given, value(alloc, "2.5")?);
     Ok(())
 }
