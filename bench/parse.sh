@@ -1,16 +1,15 @@
 #!/bin/bash
 # Seconds to read scripts of 2^18, 2^19 and 2^20 bytes by the grammar: with long lists of arguments, with chains of
 # operators below the limit, and with nested calls.
-# It drives the built program (crates/acero_run/out/acero_run, or the program given as the first word). The scripts are
-# parsed whole; the program may then refuse them, so nearly all of the time is that of the tokens and the grammar.
+# It drives the built program (crates/syntax_check/out/syntax_check, or the program given as the first word). The scripts are
+# scanned and parsed whole.
 # Time is linear where each number is at most 2.3 times the one before it; the last line says whether it is.
 set -u
 cd "$(dirname "$0")/.."
-program=$(realpath "${1:-crates/acero_run/out/acero_run}")
-[ -x "$program" ] || { echo "build acero_run first: $program is no program" >&2; exit 1; }
+program=$(realpath "${1:-crates/syntax_check/out/syntax_check}")
+[ -x "$program" ] || { echo "build syntax_check first (rt run in its folder): $program is no program" >&2; exit 1; }
 folder=$(mktemp -d)
 trap 'rm -rf "$folder"' EXIT
-printf 'x:int\n1\n' > "$folder/t.csv"
 
 # So many times the word.
 times() { yes "$1" | head -n "$2" | tr -d '\n'; }
@@ -34,7 +33,7 @@ for kind in arguments operators calls; do
             operators) script 't |> f(1' ", 1$(times '+1' 1000)" ')' "$size" ;;
             calls) script 't |> f(1' ", $(times 'g(' 100)1$(times ')' 100)" ')' "$size" ;;
         esac > "$folder/s.R"
-        seconds=$( { time (cd "$folder" && "$program" s.R t=t.csv > out 2> err); } 2>&1 )
+        seconds=$( { time (cd "$folder" && "$program" s.R > out 2> err); } 2>&1 )
         echo "$kind 2^$power bytes: $seconds s"
         if [ -n "$before" ] && awk "BEGIN { exit !($before > 0.05 && $seconds > 2.3 * $before) }"; then linear=no; fi
         before=$seconds

@@ -1,28 +1,23 @@
 -- What the grammar derives is read: where the tokens up to `rest` derive a tree, the steps from their first token come to
 -- `rest` with that tree.
-use Rattle.std.proofs.Common.{◌≡◌, ℕ, suc, ◌<◌, ◌≤◌, List, [], ◌∷◌, ◌++◌, Bool, true, false, cond, eqb, leb, ltb, ◌&&◌, ◌⊎◌, inl, inr, Option, Some, None, refl, sym, ◌∙◌, ap, ap₂, subst, arith, codes, append-nil}
-use Rattle.std.proofs.lemmas.Option.{same_Some}
+use Rattle.std.proofs.Common.{◌≡◌, ℕ, ◌<◌, ◌≤◌, List, ◌∷◌, true, Option, Some, refl, ◌∙◌, ap, arith}
 use Rattle.token_scan.specs.declared.token.Token.{Token}
 use Rattle.token_scan.specs.declared.token.TokenKind.{TokenKind}
 use Rattle.token_scan.specs.declared.token.Oper.{Oper}
 use Rattle.verb_syntax.specs.declared.tree.Term.{Term}
 use Rattle.verb_syntax.specs.declared.tree.Call.{Call}
 use Rattle.verb_syntax.specs.declared.tree.Arg.{Arg}
-use Rattle.verb_syntax.specs.declared.tree.Pipe.{Pipe}
-use Rattle.verb_syntax.specs.declared.tree.Script.{Script}
 use Rattle.verb_syntax.specs.declared.tree.TermKind.{TermKind}
-use Rattle.verb_syntax.specs.declared.tree.TermKind.TheVariants as kind
 use Rattle.verb_syntax.specs.declared.frame.Frame.{Frame}
 use Rattle.verb_syntax.specs.declared.state.Mode.{Mode}
 use Rattle.verb_syntax.specs.declared.state.State.{State}
 use Rattle.verb_syntax.specs.declared.state.Held.{Held}
-use Rattle.verb_syntax.specs.declared.state.Pending.{Pending}
-use Rattle.verb_syntax.specs.Trees.{term_of, name_term, text_term, binary_term, unary_term, call_term, pipe_term, call_of, arg_of, pipe_of}
-use Rattle.verb_syntax.specs.Grammar.{binary_rule, left_rule, prefix_rule, IsOp, IsName, IsLabel, IsPipe, IsSep, literal_of, is_package, place, Value, Calling, Args, Argument, Whole, Calls, Pipeline, Statement, Seps, Statements, Derives}
-use Rattle.verb_syntax.specs.Levels.{need, takes_pipe, takes_call}
-use Rattle.verb_syntax.specs.Machine.{◌>>=◌, state_of, want, held_of, pending_of, settle, held, placed, infix_step, prefix_step, operator_step, is_body, is_args, open_step, whole, argument, comma_step, called, close_bare, close_value, close_step, labels, label_step, pipe_step, assign_step, pipe_held, stored, sep_step, name_step, literal_in, literal_step, text_step, oper_step, kind_step, step, begin, run, finished, finish}
-use Rattle.verb_syntax.proofs.Basics.{leb_true, ltb_true, eqb_true, from_leb, bool_cases, no_some}
-use Rattle.verb_syntax.proofs.Settles.{left_ge, left_le, settle_held, settle_stays, settle_argument, settle_loosens}
+use Rattle.verb_syntax.specs.Trees.{term_of, call_of}
+use Rattle.verb_syntax.specs.Grammar.{binary_rule, left_rule, prefix_rule, IsOp, place}
+use Rattle.verb_syntax.specs.Levels.{need, takes_call}
+use Rattle.verb_syntax.specs.Machine.{◌>>=◌, state_of, want, held_of, pending_of, settle, held, placed, infix_step, prefix_step, operator_step, whole, argument, called, literal_in, oper_step, kind_step, step, run}
+use Rattle.verb_syntax.proofs.Basics.{leb_true, ltb_true, no_some}
+use Rattle.verb_syntax.proofs.Settles.{settle_held, settle_stays}
 
 -- one step, and the steps behind it
 pub run_step : (token : Token) (ts : List Token) (state next : State) → step token state ≡ Some next

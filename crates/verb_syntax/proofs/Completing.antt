@@ -1,6 +1,5 @@
 -- From each state some tokens lead to a whole script.
-use Rattle.std.proofs.Common.{◌≡◌, ℕ, zero, suc, ◌<◌, ◌≤◌, List, [], ◌∷◌, ◌++◌, Bool, true, false, cond, eqb, leb, ltb, ◌&&◌, ◌⊎◌, inl, inr, Option, Some, None, refl, sym, ◌∙◌, ap, ap₂, subst, arith, codes, append-nil}
-use Rattle.std.proofs.lemmas.Option.{same_Some, option_and_then_some}
+use Rattle.std.proofs.Common.{◌≡◌, ℕ, ◌≤◌, List, [], ◌∷◌, ◌++◌, Bool, true, false, cond, Option, Some, None, refl, sym, ◌∙◌, ap, subst, arith, codes}
 use Rattle.token_scan.specs.declared.token.Token.{Token}
 use Rattle.token_scan.specs.declared.token.TokenKind.{TokenKind}
 use Rattle.token_scan.specs.declared.token.Oper.{Oper}
@@ -14,16 +13,15 @@ use Rattle.verb_syntax.specs.declared.state.Mode.{Mode}
 use Rattle.verb_syntax.specs.declared.state.State.{State}
 use Rattle.verb_syntax.specs.declared.state.Held.{Held}
 use Rattle.verb_syntax.specs.Trees.{name_term, text_term, binary_term, unary_term, call_term, pipe_term, call_of, arg_of, pipe_of}
-use Rattle.verb_syntax.specs.Grammar.{binary_rule, left_rule, prefix_rule, IsOp, IsName, IsLabel, IsPipe, IsSep, is_package, place, Value, Calling, Args, Argument, Whole, Calls, Pipeline, Statement, Seps, Statements, Derives}
-use Rattle.verb_syntax.specs.Levels.{need, takes_pipe, takes_call, levels}
-use Rattle.verb_syntax.specs.Lines.{is_line, is_passed, deeper, goes_on, unpassed, read, DerivesScript}
+use Rattle.verb_syntax.specs.Grammar.{binary_rule, prefix_rule, place}
+use Rattle.verb_syntax.specs.Levels.{need, takes_pipe, takes_call}
+use Rattle.verb_syntax.specs.Lines.{is_line}
 use Rattle.verb_syntax.specs.Unfinished.{Opens}
-use Rattle.verb_syntax.specs.Machine.{◌>>=◌, state_of, want, held_of, settle, held, is_body, is_args, whole, argument, comma_step, called, close_step, close_value, pipe_held, stored, sep_step, kind_step, step, begin, run, finished, finish}
-use Rattle.verb_syntax.proofs.Basics.{leb_true, ltb_true, no_some, at_some}
+use Rattle.verb_syntax.specs.Machine.{◌>>=◌, state_of, held_of, settle, is_body, whole, called, close_value, step, run, finish}
+use Rattle.verb_syntax.proofs.Basics.{leb_true}
 use Rattle.verb_syntax.proofs.Complete.{run_step}
 use Rattle.verb_syntax.proofs.Derived.{close_whole}
-use Rattle.verb_syntax.proofs.Sound.{Stands, StandsAt, args_need}
-use Rattle.verb_syntax.proofs.Steps.{run_derives, finish_derives}
+use Rattle.verb_syntax.proofs.Sound.{Stands, args_need}
 
 abbrev pub NoLines : List Token → Type 0
 NoLines [] = Unit {0}

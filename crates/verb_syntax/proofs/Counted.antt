@@ -1,5 +1,5 @@
 -- The count of operators is the grammar's.
-use Rattle.std.proofs.Common.{◌≡◌, ℕ, suc, ◌+◌, ◌-◌, ◌<◌, ◌≤◌, List, [], ◌∷◌, ◌++◌, Bool, true, false, cond, eqb, ◌⊎◌, inl, inr, Option, Some, None, refl, sym, ◌∙◌, ap, arith}
+use Rattle.std.proofs.Common.{◌≡◌, ℕ, suc, ◌+◌, ◌-◌, ◌<◌, ◌≤◌, List, ◌∷◌, Bool, true, false, cond, eqb, inl, inr, Some, refl, ◌∙◌, ap, arith}
 use Rattle.std.proofs.lemmas.Bool.Decides.{nat_tests}
 use Rattle.token_scan.specs.declared.token.Token.{Token}
 use Rattle.token_scan.specs.declared.token.TokenKind.{TokenKind}
@@ -8,7 +8,7 @@ use Rattle.verb_syntax.specs.declared.tree.Term.{Term}
 use Rattle.verb_syntax.specs.declared.tree.Call.{Call}
 use Rattle.verb_syntax.specs.declared.tree.Arg.{Arg}
 use Rattle.verb_syntax.specs.declared.tree.TermKind.{TermKind}
-use Rattle.verb_syntax.specs.Grammar.{binary_rule, prefix_rule, IsOp, IsName, IsLabel, IsPipe, literal_of, Value, Calling, Args, Argument, Whole, Calls}
+use Rattle.verb_syntax.specs.Grammar.{binary_rule, prefix_rule, IsOp, IsLabel, IsPipe, literal_of, Value, Calling, Args, Argument, Whole, Calls}
 use Rattle.verb_syntax.specs.Lines.{deeper}
 use Rattle.verb_syntax.specs.Operators.{ends_operand, is_counted, count_at, operators_from}
 use Rattle.verb_syntax.specs.Counting.{applied, applied_call, applied_args, applied_argument, applied_whole, applied_calls, CountsOperators}

@@ -1,8 +1,7 @@
 -- A step opens a level only where something must begin behind it.
-use Rattle.std.proofs.Common.{◌≡◌, ℕ, suc, ◌+◌, ◌<◌, ◌≤◌, List, [], ◌∷◌, ◌++◌, Bool, true, false, cond, eqb, leb, ltb, ◌&&◌, ◌⊎◌, inl, inr, Option, Some, None, refl, sym, ◌∙◌, ap, subst, arith, codes}
+use Rattle.std.proofs.Common.{◌≡◌, ℕ, ◌≤◌, List, [], ◌∷◌, ◌++◌, Bool, true, false, cond, eqb, leb, ltb, ◌&&◌, inl, inr, Some, None, arith, codes}
 use Rattle.std.specs.Str.{bytes_eq}
-use Rattle.std.proofs.lemmas.Option.{same_Some, option_and_then_some}
-use Rattle.token_scan.specs.declared.token.Token.{Token}
+use Rattle.std.proofs.lemmas.Option.{option_and_then_some}
 use Rattle.token_scan.specs.declared.token.TokenKind.{TokenKind}
 use Rattle.token_scan.specs.declared.token.Oper.{Oper}
 use Rattle.verb_syntax.specs.declared.tree.Term.{Term}
@@ -15,10 +14,10 @@ use Rattle.verb_syntax.specs.declared.state.Mode.{Mode}
 use Rattle.verb_syntax.specs.declared.state.State.{State}
 use Rattle.verb_syntax.specs.declared.state.Held.{Held}
 use Rattle.verb_syntax.specs.declared.state.Pending.{Pending}
-use Rattle.verb_syntax.specs.Trees.{term_of, name_term, text_term, binary_term, unary_term, call_term, pipe_term, call_of, arg_of, pipe_of}
+use Rattle.verb_syntax.specs.Trees.{term_of, name_term, text_term, binary_term, unary_term, pipe_term, arg_of, pipe_of}
 use Rattle.verb_syntax.specs.Grammar.{binary_rule, left_rule, prefix_rule, is_package}
-use Rattle.verb_syntax.specs.Levels.{level_of, levels, need, takes_pipe, takes_call}
-use Rattle.verb_syntax.specs.Machine.{◌>>=◌, state_of, want, held_of, pending_of, settle, held, placed, infix_step, prefix_step, operator_step, is_body, is_args, open_step, whole, argument, comma_step, called, close_bare, close_value, close_step, labels, label_step, pipe_step, assign_step, pipe_held, stored, sep_step, name_step, literal_in, literal_step, text_step, oper_step, kind_step, step}
+use Rattle.verb_syntax.specs.Levels.{levels, need, takes_pipe, takes_call}
+use Rattle.verb_syntax.specs.Machine.{◌>>=◌, state_of, want, held_of, pending_of, settle, held, placed, infix_step, operator_step, is_body, is_args, open_step, whole, argument, comma_step, called, close_bare, close_value, close_step, label_step, pipe_step, assign_step, pipe_held, stored, sep_step, name_step, literal_in, literal_step, text_step, oper_step, kind_step}
 use Rattle.verb_syntax.proofs.Basics.{bool_cases, no_some, at_some, if_some}
 
 abbrev pub Kept : ℕ → Mode → List Frame → Type 0

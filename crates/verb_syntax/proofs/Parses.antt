@@ -14,19 +14,19 @@ use Rattle.verb_syntax.specs.declared.state.Mode.{Mode}
 use Rattle.verb_syntax.specs.declared.state.State.{State}
 use Rattle.verb_syntax.specs.declared.reader.Reader.{Reader}
 use Rattle.verb_syntax.specs.Grammar.{Seps, Statements, Derives}
-use Rattle.verb_syntax.specs.Lines.{is_line, is_passed, deeper, goes_on, unpassed, read, DerivesScript}
+use Rattle.verb_syntax.specs.Lines.{is_passed, deeper, goes_on, unpassed, read, DerivesScript}
 use Rattle.verb_syntax.specs.Levels.{levels}
 use Rattle.verb_syntax.specs.Unfinished.{Opens}
 use Rattle.verb_syntax.specs.Operators.{operators, operators_from, ends_operand, count_at}
-use Rattle.verb_syntax.specs.Parsing.{Begins, IsDeep, AllShallow, IsUnexpected, IsTooDeep, IsUnfinished, IsFirstFault, IsParsed, DeriveOne}
+use Rattle.verb_syntax.specs.Parsing.{Begins, IsDeep, AllShallow, IsTooDeep, IsUnfinished, IsFirstFault, IsParsed, DeriveOne}
 use Rattle.scalar_value.specs.declared.memory.Or.{Or}
 use Rattle.scalar_value.specs.declared.memory.Or.TheVariants.{Fault, Memory}
 use Rattle.scalar_value.specs.Gives.{Gives}
 use Rattle.verb_syntax.specs.Machine.{◌>>=◌, state_of, begin, kind_step, step, run, finish}
 use Rattle.std.specs.Prelude.{ℤ}
 use Rattle.verb_syntax.specs.Opening.{OpenOne, OpensAll}
-use Rattle.verb_syntax.specs.Reader.{reader_at, limited, moved, reads}
-use Rattle.verb_syntax.proofs.Basics.{bool_cases, from_ltb, from_ltb_false, no_some}
+use Rattle.verb_syntax.specs.Reader.{reader_at, moved, reads}
+use Rattle.verb_syntax.proofs.Basics.{from_ltb, from_ltb_false, no_some}
 use Rattle.verb_syntax.proofs.Complete.{run_step}
 use Rattle.verb_syntax.proofs.Sound.{Stands, StandsAt}
 use Rattle.verb_syntax.proofs.Steps.{run_derives, finish_derives}

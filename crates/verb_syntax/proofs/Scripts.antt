@@ -1,26 +1,20 @@
 -- Whole scripts and begins of scripts that the grammar derives are read.
-use Rattle.std.proofs.Common.{◌≡◌, ℕ, zero, suc, ◌<◌, ◌≤◌, List, [], ◌∷◌, ◌++◌, Bool, true, false, cond, eqb, leb, ltb, ◌&&◌, ◌⊎◌, inl, inr, Option, Some, None, refl, sym, ◌∙◌, ap, ap₂, subst, arith, codes, append-nil}
-use Rattle.std.proofs.lemmas.Option.{same_Some, option_and_then_some}
+use Rattle.std.proofs.Common.{◌≡◌, ℕ, List, [], ◌∷◌, ◌++◌, true, inl, inr, Option, Some, refl, sym, ◌∙◌, ap, arith, codes, append-nil}
 use Rattle.token_scan.specs.declared.token.Token.{Token}
 use Rattle.token_scan.specs.declared.token.TokenKind.{TokenKind}
 use Rattle.token_scan.specs.declared.token.Oper.{Oper}
-use Rattle.verb_syntax.specs.declared.tree.Term.{Term}
-use Rattle.verb_syntax.specs.declared.tree.Call.{Call}
-use Rattle.verb_syntax.specs.declared.tree.Arg.{Arg}
 use Rattle.verb_syntax.specs.declared.tree.Pipe.{Pipe}
 use Rattle.verb_syntax.specs.declared.tree.Script.{Script}
 use Rattle.verb_syntax.specs.declared.frame.Frame.{Frame}
 use Rattle.verb_syntax.specs.declared.state.Mode.{Mode}
 use Rattle.verb_syntax.specs.declared.state.State.{State}
 use Rattle.verb_syntax.specs.declared.state.Held.{Held}
-use Rattle.verb_syntax.specs.Trees.{name_term, text_term, binary_term, unary_term, call_term, pipe_term, call_of, arg_of, pipe_of}
-use Rattle.verb_syntax.specs.Grammar.{binary_rule, left_rule, prefix_rule, IsOp, IsName, IsLabel, IsPipe, IsSep, is_package, place, Value, Calling, Args, Argument, Whole, Calls, Pipeline, Statement, Seps, Statements, Derives}
-use Rattle.verb_syntax.specs.Levels.{need, takes_pipe, takes_call, levels}
-use Rattle.verb_syntax.specs.Lines.{is_line, is_passed, deeper, goes_on, unpassed, read, DerivesScript}
+use Rattle.verb_syntax.specs.Grammar.{IsSep, place, Pipeline, Statement, Seps, Statements, Derives}
+use Rattle.verb_syntax.specs.Levels.{takes_pipe}
 use Rattle.verb_syntax.specs.Unfinished.{Opens}
-use Rattle.verb_syntax.specs.Machine.{◌>>=◌, state_of, want, held_of, settle, held, is_body, is_args, whole, argument, comma_step, called, close_step, close_value, pipe_held, stored, sep_step, kind_step, step, begin, run, finished, finish}
-use Rattle.verb_syntax.proofs.Basics.{leb_true, ltb_true, no_some, at_some}
-use Rattle.verb_syntax.proofs.Complete.{run_step, run_on, Reads, ReadsArgs, step_binary, step_prefix, step_paren}
+use Rattle.verb_syntax.specs.Machine.{◌>>=◌, state_of, want, argument, pipe_held, stored, sep_step, begin, run, finished, finish}
+use Rattle.verb_syntax.proofs.Basics.{no_some}
+use Rattle.verb_syntax.proofs.Complete.{run_step, run_on, step_binary, step_prefix, step_paren}
 use Rattle.verb_syntax.proofs.Settles.{left_ge}
 use Rattle.verb_syntax.proofs.Derived.{value_read, args_read, calls_read, open_call, read_label, pipe_on}
 

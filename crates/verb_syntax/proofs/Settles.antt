@@ -1,5 +1,5 @@
 -- How operators settle.
-use Rattle.std.proofs.Common.{◌≡◌, ℕ, suc, ◌<◌, ◌≤◌, ◌≢◌, List, [], ◌∷◌, Bool, true, false, cond, ◌⊎◌, inl, inr, Option, Some, None, refl, sym, ◌∙◌, ap, arith}
+use Rattle.std.proofs.Common.{◌≡◌, ℕ, suc, ◌<◌, ◌≤◌, ◌≢◌, List, [], ◌∷◌, inl, inr, refl, sym, ◌∙◌, ap, arith}
 use Rattle.token_scan.specs.declared.token.Oper.{Oper}
 use Rattle.verb_syntax.specs.declared.tree.Term.{Term}
 use Rattle.verb_syntax.specs.declared.frame.Frame.{Frame}

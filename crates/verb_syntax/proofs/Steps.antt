@@ -1,6 +1,5 @@
 -- One more token is derived, or no step is made.
-use Rattle.std.proofs.Common.{Decides, ◌≡◌, ℕ, suc, ◌<◌, ◌≤◌, List, [], ◌∷◌, ◌++◌, Bool, true, false, cond, eqb, leb, ltb, ◌&&◌, ◌⊎◌, inl, inr, Option, Some, None, refl, sym, ◌∙◌, ap, ap₂, subst, arith, codes, append-nil}
-use Rattle.std.proofs.lemmas.Option.{same_Some}
+use Rattle.std.proofs.Common.{Decides, ◌≡◌, ℕ, ◌<◌, ◌≤◌, List, [], ◌∷◌, ◌++◌, Bool, true, false, cond, eqb, leb, ltb, ◌&&◌, ◌⊎◌, inl, inr, Some, None, refl, sym, ◌∙◌, ap, subst, arith, codes, append-nil}
 use Rattle.token_scan.specs.declared.token.Token.{Token}
 use Rattle.token_scan.specs.declared.token.TokenKind.{TokenKind}
 use Rattle.token_scan.specs.declared.token.Oper.{Oper}
@@ -16,19 +15,18 @@ use Rattle.verb_syntax.specs.declared.state.Mode.{Mode}
 use Rattle.verb_syntax.specs.declared.state.State.{State}
 use Rattle.verb_syntax.specs.declared.state.Held.{Held}
 use Rattle.verb_syntax.specs.declared.state.Pending.{Pending}
-use Rattle.verb_syntax.specs.Trees.{term_of, name_term, text_term, binary_term, unary_term, call_term, pipe_term, call_of, arg_of, pipe_of}
-use Rattle.verb_syntax.specs.Grammar.{binary_rule, left_rule, prefix_rule, IsOp, IsName, IsLabel, IsPipe, IsSep, literal_of, is_package, place, Value, Calling, Args, Argument, Whole, Calls, Pipeline, Statement, Seps, Statements, Derives}
+use Rattle.verb_syntax.specs.Trees.{term_of, call_term, pipe_term, call_of, arg_of, pipe_of}
+use Rattle.verb_syntax.specs.Grammar.{binary_rule, left_rule, prefix_rule, IsOp, IsName, IsLabel, IsPipe, IsSep, literal_of, is_package, place, Value, Calling, Args, Argument, Whole, Pipeline, Statement, Seps, Statements, Derives}
 use Rattle.verb_syntax.specs.Levels.{need, takes_pipe, takes_call}
-use Rattle.verb_syntax.specs.Machine.{◌>>=◌, state_of, want, held_of, pending_of, settle, held, placed, infix_step, prefix_step, operator_step, is_body, is_args, open_step, whole, argument, comma_step, called, close_bare, close_value, close_step, labels, label_step, pipe_step, assign_step, pipe_held, stored, sep_step, name_step, literal_in, literal_step, text_step, oper_step, kind_step, step, begin, run, finished, finish}
-use Rattle.verb_syntax.proofs.Basics.{leb_true, ltb_true, eqb_true, from_leb, bool_cases, no_some}
-use Rattle.verb_syntax.proofs.Settles.{left_ge, left_le, settle_held, settle_stays, settle_argument, settle_loosens}
+use Rattle.verb_syntax.specs.Machine.{◌>>=◌, state_of, want, held_of, pending_of, settle, held, placed, infix_step, prefix_step, operator_step, is_body, is_args, open_step, whole, argument, comma_step, called, close_bare, close_value, close_step, labels, label_step, pipe_step, assign_step, pipe_held, stored, sep_step, name_step, literal_in, literal_step, text_step, oper_step, kind_step, step, run, finished, finish}
+use Rattle.verb_syntax.proofs.Basics.{from_leb, no_some}
+use Rattle.verb_syntax.proofs.Settles.{left_le}
 use Rattle.std.proofs.lemmas.Option.{option_and_then_some}
 use Rattle.verb_syntax.specs.Unfinished.{Opens}
-use Rattle.verb_syntax.proofs.Basics.{from_ltb, from_eqb, from_and, le_cases, leb_false, at_some, if_some}
+use Rattle.verb_syntax.proofs.Basics.{from_ltb, from_eqb, from_and, at_some, if_some}
 use Rattle.std.specs.Str.{bytes_eq}
 use Rattle.std.proofs.lemmas.Slice.Eq.{bytes_eq-Decides}
-use Rattle.verb_syntax.proofs.Basics.{from_leb_false}
-use Rattle.verb_syntax.proofs.Sound.{Stands, StandsAt, Begun, open_args, more_args, open_right, open_under, open_paren, open_label, open_piped, open_body, open_target, loosened, Settled, settled_at, settle_derives, held_derives, held_settles}
+use Rattle.verb_syntax.proofs.Sound.{Stands, StandsAt, Begun, open_args, more_args, open_right, open_under, open_paren, open_label, open_piped, open_body, open_target, loosened, Settled, held_derives, held_settles}
 
 same_bytes : (a b : List ℕ) → bytes_eq a b ≡ true → a ≡ b
 same_bytes a b h = go (bytes_eq a b) h (bytes_eq-Decides a b)

@@ -1,6 +1,6 @@
 -- The law that the count of operators is the grammar's: it counts, in what is derived, exactly the applications of the
 -- rules from or to range with an operator.
-use Rattle.std.specs.Prelude.{◌≡◌, ℕ, ◌+◌, ◌≤◌, List, Bool, true, false, cond}
+use Rattle.std.specs.Prelude.{◌≡◌, ℕ, ◌+◌, ◌≤◌, List, true, false, cond}
 use Rattle.token_scan.specs.declared.token.Token.{Token}
 use Rattle.verb_syntax.specs.declared.tree.Term.{Term}
 use Rattle.verb_syntax.specs.declared.tree.Call.{Call}

@@ -1,6 +1,5 @@
 -- Unfinished rules: `Frame` is a rule of which the tokens so far have the beginning. The innermost stands first.
 use Rattle.std.specs.Prelude.{ℕ, suc, ◌+◌, List, [], ◌∷◌, Bool, true, false}
-use Rattle.token_scan.specs.declared.token.Oper.{Oper}
 use Rattle.verb_syntax.specs.declared.frame.Frame.{Frame}
 use Rattle.verb_syntax.specs.Grammar.{binary_rule, prefix_rule}
 

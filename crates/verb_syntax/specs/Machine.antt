@@ -1,6 +1,6 @@
 -- How `parse` goes on with one token: what the private functions of the crate give. The grammar knows nothing of this;
 -- that both say the same is proved.
-use Rattle.std.specs.Prelude.{ℕ, suc, List, [], ◌∷◌, ◌++◌, Option, Some, None, Bool, true, false, cond, ◌==◌, ◌&&◌, nat_le, nat_lt, codes}
+use Rattle.std.specs.Prelude.{ℕ, List, [], ◌∷◌, ◌++◌, Option, Some, None, Bool, true, false, cond, ◌==◌, ◌&&◌, nat_le, nat_lt, codes}
 use Rattle.std.specs.Option.{option_and_then}
 use Rattle.std.specs.Str.{bytes_eq}
 use Rattle.token_scan.specs.declared.token.Token.{Token}

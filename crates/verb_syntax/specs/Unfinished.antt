@@ -1,5 +1,5 @@
 -- What a front of the tokens leaves unfinished, by the rules of the grammar.
-use Rattle.std.specs.Prelude.{◌≡◌, ℕ, suc, ◌≤◌, ◌<◌, List, [], ◌∷◌, ◌++◌, true, codes}
+use Rattle.std.specs.Prelude.{◌≡◌, ℕ, ◌≤◌, ◌<◌, List, [], ◌∷◌, true}
 use Rattle.token_scan.specs.declared.token.Token.{Token}
 use Rattle.token_scan.specs.declared.token.Oper.{Oper}
 use Rattle.verb_syntax.specs.declared.tree.Pipe.{Pipe}

@@ -1,5 +1,5 @@
 -- The invariant of the loop, and what follows at each end.
-use Rattle.std.proofs.Common.{◌≡◌, take, drop, suc, ◌+◌, subst, sym, refl}
+use Rattle.std.proofs.Common.{take, drop, suc, subst, refl}
 use Rattle.std.proofs.lemmas.List.{take_all}
 use Rattle.verb_syntax.proofs.Parses.{IsAt, at_begin, reads_ok, reads_err, read_whole, read_unfinished, token_parts, token_next}
 use Rattle.verb_syntax.proofs.reader.read_all.Goals as goal

@@ -1,4 +1,4 @@
-use Rattle.std.proofs.Common.{◌≡◌, ℕ, length}
+use Rattle.std.proofs.Common.{◌≡◌, length}
 use Rattle.verb_syntax.specs.Machine.{settle}
 use Rattle.verb_syntax.proofs.step.settled.Given as goal
 
