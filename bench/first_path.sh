@@ -1,6 +1,6 @@
 #!/bin/bash
 # Times the proved program on tables of 2,000,000 and of 4,000,000 rows, and prints for each the seconds, the peak of
-# its memory beside the table's bytes, and then the ratio of both times. It tests nothing.
+# its memory beside the table's bytes, and then the ratio of both times. Each time is the least of five runs. It tests nothing.
 # Usage: bench/first_path.sh [ROWS], where ROWS is the number of rows of the smaller table.
 set -eu
 top=$(cd "$(dirname "$0")/.." && pwd)
@@ -25,11 +25,13 @@ make_table() {
 measure() {
     python3 - "$program" "$folder/s.R" "t=$1" <<'PYTHON'
 import resource, subprocess, sys, time
-start = time.monotonic()
-status = subprocess.run(sys.argv[1:], stdout=subprocess.DEVNULL).returncode
-seconds = time.monotonic() - start
+seconds = []
+for _ in range(5):
+    start = time.monotonic()
+    status = subprocess.run(sys.argv[1:], stdout=subprocess.DEVNULL).returncode
+    seconds.append(time.monotonic() - start)
 peak = resource.getrusage(resource.RUSAGE_CHILDREN).ru_maxrss
-print(f"{seconds:.3f} {peak} {status}")
+print(f"{min(seconds):.3f} {peak} {status}")
 PYTHON
 }
 

@@ -3,7 +3,7 @@
 # operators below the limit, and with nested calls.
 # It drives the built program (crates/syntax_check/out/syntax_check, or the program given as the first word). The scripts are
 # scanned and parsed whole.
-# Time is linear where each number is at most 2.3 times the one before it; the last line says whether it is.
+# Each number is the least of five runs. Time is linear where each number is at most 2.3 times the one before it; the last line says whether it is.
 set -u
 cd "$(dirname "$0")/.."
 program=$(realpath "${1:-crates/syntax_check/out/syntax_check}")
@@ -33,7 +33,7 @@ for kind in arguments operators calls; do
             operators) script 't |> f(1' ", 1$(times '+1' 1000)" ')' "$size" ;;
             calls) script 't |> f(1' ", $(times 'g(' 100)1$(times ')' 100)" ')' "$size" ;;
         esac > "$folder/s.R"
-        seconds=$( { time (cd "$folder" && "$program" s.R > out 2> err); } 2>&1 )
+        seconds=$(for _ in 1 2 3 4 5; do { time (cd "$folder" && "$program" s.R > out 2> err); } 2>&1; done | sort -n | head -n 1)
         echo "$kind 2^$power bytes: $seconds s"
         if [ -n "$before" ] && awk "BEGIN { exit !($before > 0.05 && $seconds > 2.3 * $before) }"; then linear=no; fi
         before=$seconds

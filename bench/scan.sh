@@ -2,7 +2,7 @@
 # Seconds to scan scripts of 2^18, 2^19 and 2^20 bytes: of names, of one long text and of operators.
 # It drives the built program (crates/syntax_check/out/syntax_check, or the program given as the first word) with scripts
 # that are scanned whole and then refused by the grammar at one of their first tokens, so the time is the scan's.
-# Time is linear where each number is at most about twice the one before it.
+# Each number is the least of five runs. Time is linear where each number is at most about twice the one before it.
 set -u
 cd "$(dirname "$0")/.."
 program=$(realpath "${1:-crates/syntax_check/out/syntax_check}")
@@ -22,7 +22,7 @@ for kind in names text operators; do
             text) printf "'"; fill 'a' $((size - 2)); printf "'" ;;
             operators) fill '+-*/' "$size" ;;
         esac > "$folder/s.R"
-        seconds=$( { time (cd "$folder" && "$program" s.R > out 2> err); } 2>&1 )
+        seconds=$(for _ in 1 2 3 4 5; do { time (cd "$folder" && "$program" s.R > out 2> err); } 2>&1; done | sort -n | head -n 1)
         echo "$kind 2^$power bytes: $seconds s"
     done
 done
