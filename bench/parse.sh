@@ -5,11 +5,7 @@
 # scanned and parsed whole.
 # Each number is the least of five runs. Time is linear where each number is at most 2.3 times the one before it; the last line says whether it is.
 set -u
-cd "$(dirname "$0")/.."
-program=$(realpath "${1:-crates/syntax_check/out/syntax_check}")
-[ -x "$program" ] || { echo "build syntax_check first (rt run in its folder): $program is no program" >&2; exit 1; }
-folder=$(mktemp -d)
-trap 'rm -rf "$folder"' EXIT
+. "$(dirname "$0")/measure.sh"
 
 # So many times the word.
 times() { yes "$1" | head -n "$2" | tr -d '\n'; }
@@ -22,7 +18,6 @@ script() {
     printf '%s' "$3"
 }
 
-TIMEFORMAT=%R
 linear=yes
 for kind in arguments operators calls; do
     before=
@@ -33,7 +28,7 @@ for kind in arguments operators calls; do
             operators) script 't |> f(1' ", 1$(times '+1' 1000)" ')' "$size" ;;
             calls) script 't |> f(1' ", $(times 'g(' 100)1$(times ')' 100)" ')' "$size" ;;
         esac > "$folder/s.R"
-        seconds=$(for _ in 1 2 3 4 5; do { time (cd "$folder" && "$program" s.R > out 2> err); } 2>&1; done | sort -n | head -n 1)
+        seconds=$(least)
         echo "$kind 2^$power bytes: $seconds s"
         if [ -n "$before" ] && awk "BEGIN { exit !($before > 0.05 && $seconds > 2.3 * $before) }"; then linear=no; fi
         before=$seconds

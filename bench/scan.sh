@@ -4,16 +4,11 @@
 # that are scanned whole and then refused by the grammar at one of their first tokens, so the time is the scan's.
 # Each number is the least of five runs. Time is linear where each number is at most about twice the one before it.
 set -u
-cd "$(dirname "$0")/.."
-program=$(realpath "${1:-crates/syntax_check/out/syntax_check}")
-[ -x "$program" ] || { echo "build syntax_check first (rt run in its folder): $program is no program" >&2; exit 1; }
-folder=$(mktemp -d)
-trap 'rm -rf "$folder"' EXIT
+. "$(dirname "$0")/measure.sh"
 
 # So many bytes of the words, again and again.
 fill() { yes "$1" | tr -d '\n' | head -c "$2"; }
 
-TIMEFORMAT=%R
 for kind in names text operators; do
     for power in 18 19 20; do
         size=$((1 << power))
@@ -22,7 +17,7 @@ for kind in names text operators; do
             text) printf "'"; fill 'a' $((size - 2)); printf "'" ;;
             operators) fill '+-*/' "$size" ;;
         esac > "$folder/s.R"
-        seconds=$(for _ in 1 2 3 4 5; do { time (cd "$folder" && "$program" s.R > out 2> err); } 2>&1; done | sort -n | head -n 1)
+        seconds=$(least)
         echo "$kind 2^$power bytes: $seconds s"
     done
 done
