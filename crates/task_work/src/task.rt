@@ -1,0 +1,46 @@
+ghost use Rattle.std.specs.Prelude.{◌≡◌, ◌<◌, List, ℕ, IfOk};
+ghost use Rattle.scalar_value.specs.declared.value.Value.{Value};
+ghost use Rattle.plan_machine.specs.State.{Task as MachineTask};
+ghost use Rattle.task_work.specs.Sites.{Site};
+ghost use Rattle.task_work.specs.Work.{IsWork, IsFruit};
+
+use crate::work::{Fruit, Work};
+use plan_nodes::Operator;
+use scalar_value::Mem;
+use std::alloc::Global;
+use std::thread::Threads;
+
+/// What a worker has in hand: the node, whether the order of the node's rows is kept, the rows of a batch, and the work
+/// itself.
+#[derive(Drop)]
+pub struct Task<O: Operator> {
+    pub node: u32,
+    pub kept: bool,
+    pub batch: u32,
+    pub work: Work<O, O::Shared, O::Local>,
+}
+
+/// A task that is done.
+#[derive(Drop)]
+pub struct Done<O: Operator> {
+    pub node: u32,
+    pub fruit: Fruit<O, O::Shared, O::Local>,
+}
+
+/// Does the work of a task, which takes no turn and waits for nobody.
+pub fn run_task<R: Threads + Sync, O: Operator>(rt: &R, alloc: Global, task: Task<O>) -> Mem<Done<O>>
+    requires batch { 0 < task.batch }
+    requires work {
+        (v : Site) × (t : MachineTask (List Value))
+        × (v.kept ≡ task.kept) × (v.batch ≡ task.batch)
+        × IsWork O.meaning O.local_is O.shared_is v t task.work
+    }
+    ensures {
+        (v : Site) (t : MachineTask (List Value))
+        → v.kept ≡ task.kept → v.batch ≡ task.batch
+        → IsWork O.meaning O.local_is O.shared_is v t task.work
+        → IfOk result (λ done. (done.node ≡ task.node) × IsFruit O.meaning O.local_is O.shared_is v t done.fruit)
+    }
+{
+    Err(scalar_value::NoMemory)
+}
