@@ -80,9 +80,9 @@ module _ {O S L : Type 0}
   abbrev pub IsWork : Task (List Value) → Work O S L → Type 0
   IsWork t (work.Emit table number) = (t.job ≡ job.Emit) × IsTable table × (number ≡ t.number) × (number < parts v.batch v.table)
   IsWork t (work.Fold part batch) = (t.job ≡ job.Fold) × IsPart t.took t.built [] part × IsFolded t batch
-  IsWork t (work.Seal row) = (t.job ≡ job.Seal) × IsRow t.took t.built [] row × (v.meaning.shape.folds ≡ true)
+  IsWork t (work.Seal row) = (t.job ≡ job.Seal) × IsRow t.took t.built [] row.items × (v.meaning.shape.folds ≡ true)
   IsWork t (work.Stream part batch from) = (t.job ≡ job.Stream) × IsPart t.took t.built [] part × IsStreamed t batch from
-  IsWork t (work.Close row) = (t.job ≡ job.Close) × IsRow t.took t.built [] row × (v.meaning.shape.streams ≡ true) × (v.meaning.shape.tails ≡ true)
+  IsWork t (work.Close row) = (t.job ≡ job.Close) × IsRow t.took t.built [] row.items × (v.meaning.shape.streams ≡ true) × (v.meaning.shape.tails ≡ true)
   IsWork t (work.Tail part number) = (t.job ≡ job.Tail) × IsShared t.built t.streamed part × (number ≡ t.number) × Ends × (number < end_count v.meaning t.built t.streamed)
 
   -- ---- what it brings back
@@ -106,11 +106,11 @@ module _ {O S L : Type 0}
   abbrev pub IsFruit : Task (List Value) → Fruit O S L → Type 0
   IsFruit t (fruit.Emit table out) = (t.job ≡ job.Emit) × IsTable table × IsOut (Some t.number) (piece v.kept v.batch v.table t.number).rows out
   IsFruit t (fruit.Fold part) = (t.job ≡ job.Fold) × IsPart (t.took ++ t.batch ∷ []) t.built [] part
-  IsFruit t (fruit.Seal row count) = (t.job ≡ job.Seal) × IsRow [] (gathered t.took) [] row × IsCount v.meaning.shape.streams (gathered t.took) [] count
+  IsFruit t (fruit.Seal row count) = (t.job ≡ job.Seal) × IsRow [] (gathered t.took) [] row.items × IsCount v.meaning.shape.streams (gathered t.took) [] count
   IsFruit t (fruit.Stream part out rest) =
       (t.job ≡ job.Stream)
       × IsPart (t.took ++ t.batch ∷ []) t.built [] part
       × IsOut t.batch.index (sent_rows v.meaning t.built t.batch.rows t.batch.from) out
       × IsRest t (next_from v.meaning t.built t.batch.rows t.batch.from) rest
-  IsFruit t (fruit.Close row count) = (t.job ≡ job.Close) × IsRow [] t.built t.took row × (count ≡ end_count v.meaning t.built t.took)
+  IsFruit t (fruit.Close row count) = (t.job ≡ job.Close) × IsRow [] t.built t.took row.items × (count ≡ end_count v.meaning t.built t.took)
   IsFruit t (fruit.Tail part out) = (t.job ≡ job.Tail) × IsShared t.built t.streamed part × IsOut (Some t.number) (end_part v.meaning t.built t.streamed t.number) out
