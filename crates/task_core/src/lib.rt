@@ -1,0 +1,10 @@
+//! The state of a plan's run: what waits, what is in flight, and the history that led there.
+#![tactic(auto)]
+
+mod queue;
+mod setting;
+mod stage;
+mod state;
+
+pub use setting::{Ending, Setting};
+pub use state::PlanState;
