@@ -1,2 +1,5 @@
 pub mod Told
 pub mod Stored
+pub mod Queues
+pub mod Calls
+pub mod Known

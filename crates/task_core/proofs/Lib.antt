@@ -1,0 +1,4 @@
+pub mod Held
+pub mod Growing
+pub mod Pausing
+pub mod Known
