@@ -74,7 +74,7 @@ module _ {O S L : Type 0}
         let gr = grows (plan_of g) es x (opening (plan_of g)) in
         record {
           planned = h.planned;
-        well = h.well;
+          well = h.well;
           lawful = h.lawful;
           sizes = h.sizes;
           legal = gr.legal h.legal can;

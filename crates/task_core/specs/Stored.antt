@@ -176,7 +176,7 @@ module _ {O S L : Type 0}
 
     pub record Stands (g : Given) (history : List Entry) (infos : List NodeInfo) (stages : List Stage) (queues : List Queue) (rows : List (List (Option (Share O S L)))) (seats : List (Option Flight)) (failed : Bool) (flying : ℕ) (room capacity : ℕ) : Type 0 where
       pub planned : IsPlan g.nodes
-    pub well : WellFormed (plan_of g)
+      pub well : WellFormed (plan_of g)
       pub lawful : Lawful (plan_of g)
       pub sizes : Bounding g
       pub legal : IsHistory (plan_of g) history
