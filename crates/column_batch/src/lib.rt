@@ -1,24 +1,11 @@
-//! Batches of rows.
+//! Batches: runs of rows with the types of their columns and, in an ordered stream, their index.
 #![tactic(auto)]
 
-use row_table::Row;
-use scalar_value::{ColType, Seq};
-use std::marker::Model;
+mod batch;
+mod laws;
 
-/// A batch.
-#[derive(Debug, Drop)]
-pub struct Batch {
-    index: Option<u64>,
-    kinds: Seq<ColType>,
-    rows: Seq<Row>,
-}
+pub use batch::Batch;
+pub use laws::{fits_by_kinds, fits_parts};
 
-impl Model for Batch {
-    ghost use Rattle.column_batch.specs.Batches.{BatchValue, IsBatch};
-
-    ghost Value = { BatchValue };
-
-    ghost view = { λ b. record { index = b.index; kinds = b.kinds; rows = b.rows } };
-
-    ghost invariant = { λ b. IsBatch (record { index = b.index; kinds = b.kinds; rows = b.rows }) };
-}
+#[cfg(test)]
+mod tests;
