@@ -9,3 +9,4 @@ pub mod EachKind
 pub mod Inputs
 
 pub mod Placed
+pub mod Example

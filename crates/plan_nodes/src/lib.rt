@@ -5,6 +5,6 @@ mod laws;
 mod node;
 mod operator;
 
-pub use laws::plans_are_well_formed;
+pub use laws::{plans_are_well_formed, plans_exist};
 pub use node::{JoinSpec, Node, NodeKind, Plan, mark_of};
 pub use operator::{Operator, Streamed};
