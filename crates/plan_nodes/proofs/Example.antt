@@ -1,5 +1,5 @@
 -- A plan: the rows of two tables by their first columns, those whose flag is TRUE, and the sink.
-use Rattle.std.proofs.Common.{◌≡◌, ℕ, zero, suc, ◌+◌, ◌<◌, ◌≤◌, ◌⊎◌, inl, inr, true, false, Result, ap, List, [], ◌∷◌, length, refl, subst, arith, lit≤, lit<}
+use Rattle.std.proofs.Common.{◌≡◌, ℕ, zero, suc, ◌<◌, ◌≤◌, inl, inr, true, false, Result, ap, List, [], ◌∷◌, refl, subst, arith, lit≤, lit<}
 use Rattle.std.specs.Prelude.{pos}
 use Rattle.std.specs.List.{Contains}
 use Rattle.scalar_value.specs.declared.value.Value.TheVariants.{Int, Lgl}
