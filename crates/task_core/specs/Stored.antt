@@ -97,11 +97,13 @@ takes_all job.Stream = false
 takes_all job.Close = true
 takes_all job.Tail = false
 
+-- the shares of all workers at node n are away for a Seal or a Close of some worker
+abbrev pub AllAway : (ℕ → Option (Task (List Value))) → ℕ → Type 0
+AllAway tasks n = (w : ℕ) × (t : Task (List Value)) × (tasks w ≡ Some t) × (t.node ≡ n) × (takes_all t.job ≡ true)
+
 -- what a share of worker w at node n is away for: a task of that worker there, or a Seal or a Close of any worker
 abbrev pub Away : (ℕ → Option (Task (List Value))) → ℕ → ℕ → Type 0
-Away tasks n w =
-    ((t : Task (List Value)) × (tasks w ≡ Some t) × (t.node ≡ n))
-    ⊎ ((w' : ℕ) × (t : Task (List Value)) × (tasks w' ≡ Some t) × (t.node ≡ n) × (takes_all t.job ≡ true))
+Away tasks n w = ((t : Task (List Value)) × (tasks w ≡ Some t) × (t.node ≡ n)) ⊎ AllAway tasks n
 
 -- ---- shares
 
@@ -147,7 +149,7 @@ module _ {O S L : Type 0}
 
     -- the shares of all workers at a node, which are one for each, or none at all while a Seal or a Close has them
     pub record RowIs (v : Site) (last : Bool) (failed : Bool) (phase : Phase) (locals : ℕ → List (Batch (List Value))) (built : List (List Value)) (streamed : List (Batch (List Value))) (tasks : ℕ → Option (Task (List Value))) (n : ℕ) (row : List (Option (Share O S L))) : Type 0 where
-      pub size : (length row ≡ v.workers) ⊎ (row ≡ [])
+      pub size : (length row ≡ v.workers) ⊎ ((row ≡ []) × (failed ≡ false → is_live last phase ≡ true → AllAway tasks n))
       pub slots : (k : ℕ) → k < v.workers → SlotIs v last failed phase (locals (suc k)) built streamed (Away tasks n (suc k)) (slice_index_or row k None)
 
     -- ---- the whole
