@@ -10,3 +10,4 @@ pub mod Inputs
 
 pub mod Placed
 pub mod Example
+pub mod Gathered
