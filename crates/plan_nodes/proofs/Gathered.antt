@@ -15,7 +15,7 @@ use Rattle.plan_machine.specs.Batch.{Batch, key_of, key, insert_batch, sort_batc
 use Rattle.column_batch.specs.Batches.{BatchValue, fit_kinds}
 use Rattle.column_batch.proofs.Fitting.{fit_kinds-append}
 use Rattle.plan_nodes.specs.Operators.{flat, item, Each}
-use Rattle.plan_nodes.specs.Examples.{bare, from_front, Keeps}
+use Rattle.plan_nodes.specs.Examples.{bare}
 
 pub flat-push : {A : Type 0} (xs : List (List A)) (x : List A) → flat (xs ++ x ∷ []) ≡ flat xs ++ x
 flat-push [] x = simp append-nil

@@ -11,3 +11,4 @@ pub mod Inputs
 pub mod Placed
 pub mod Example
 pub mod Gathered
+pub mod Parts

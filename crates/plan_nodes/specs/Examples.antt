@@ -19,6 +19,16 @@ bare batches = map (λ b. item b 0) batches
 abbrev pub from_front : List (Batch (List Value)) → List (Batch (List Value))
 from_front taken = map {A = Batch (List Value)} (λ t. record t { from = 0 }) taken
 
--- A part that keeps the batches that it took, whose rows fit these types.
+-- they have columns of these types, which their rows fit
+abbrev pub HaveKinds : List ColType → List BatchValue → Type 0
+HaveKinds kinds [] = Unit {0}
+HaveKinds kinds (b ∷ bs) = (b.kinds ≡ kinds) × IsTrue (fit_kinds kinds b.rows) × HaveKinds kinds bs
+
+-- A part that keeps the batches that it took.
 abbrev pub Keeps : List ColType → List BatchValue → List (Batch (List Value)) → Type 0
-Keeps kinds part taken = (from_front taken ≡ bare part) × IsTrue (fit_kinds kinds (rows_of (bare part)))
+Keeps kinds part taken = (from_front taken ≡ bare part) × HaveKinds kinds part
+
+-- the types of the first batch's columns
+abbrev pub first_kinds : List BatchValue → List ColType
+first_kinds [] = []
+first_kinds (b ∷ bs) = b.kinds
