@@ -2,9 +2,11 @@
 #![tactic(auto)]
 
 mod queue;
+mod result;
 mod setting;
 mod stage;
 mod state;
 
+pub use result::Finished;
 pub use setting::{Ending, Setting};
 pub use state::PlanState;
