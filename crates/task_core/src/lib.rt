@@ -5,6 +5,7 @@ mod queue;
 mod setting;
 mod stage;
 mod state;
+mod upkeep;
 
 pub use setting::{Ending, Setting};
 pub use state::PlanState;
