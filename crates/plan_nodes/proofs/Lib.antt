@@ -10,3 +10,5 @@ pub mod Inputs
 
 pub mod Placed
 pub mod Example
+pub mod Gathered
+pub mod Parts

@@ -2,3 +2,4 @@ pub mod Operators
 pub mod Kinds
 pub mod Plans
 pub mod PlanLaws
+pub mod Examples

@@ -8,3 +8,6 @@ mod operator;
 pub use laws::{plans_are_well_formed, plans_exist};
 pub use node::{JoinSpec, Node, NodeKind, Plan, mark_of};
 pub use operator::{Operator, Streamed};
+
+#[cfg(test)]
+mod tests;
