@@ -2,5 +2,6 @@ pub mod Held
 pub mod Growing
 pub mod Pausing
 pub mod Known
+pub mod Seated
 pub mod Resuming
 pub mod Finishing
