@@ -5,3 +5,4 @@ pub mod Known
 pub mod Seated
 pub mod Resuming
 pub mod Finishing
+pub mod Leaving
