@@ -24,3 +24,11 @@ module _ {B : Type 0} where
       by : (k ≡ p) ⊎ (k ≢ p) → R' (suc k) (slice_index_or (slice_set xs p x) k d)
       by (inl e) = subst (λ j. R' (suc j) (slice_index_or (slice_set xs p x) j d)) (sym e) (subst (λ y. R' (suc p) y) (sym (get_or-set_same xs p x d (subst (λ j. j < length xs) e within))) here)
       by (inr ne) = subst (λ y. R' (suc k) y) (sym (get_or-set_other xs p k x d ne)) (others (suc k) (slice_index_or xs k d) (λ e. ne (omega arith)) (h k d within))
+
+  -- nothing is written, and what number n stands for changes
+  pub held_else : (R R' : ℕ → B → Type 0) (xs : List B) (n : ℕ) → Held R xs → ((y : B) → R n y → R' n y) → ((m : ℕ) (y : B) → m ≢ n → R m y → R' m y) → Held R' xs
+  held_else R R' xs n h here others k d lt = by (same_or (suc k) n)
+    where
+      by : (suc k ≡ n) ⊎ (suc k ≢ n) → R' (suc k) (slice_index_or xs k d)
+      by (inl e) = subst (λ j. R' j (slice_index_or xs k d)) (sym e) (here (slice_index_or xs k d) (subst (λ j. R j (slice_index_or xs k d)) e (h k d lt)))
+      by (inr ne) = others (suc k) (slice_index_or xs k d) ne (h k d lt)

@@ -3,3 +3,6 @@ pub mod Growing
 pub mod Pausing
 pub mod Known
 pub mod Seated
+pub mod Resuming
+pub mod Finishing
+pub mod Leaving

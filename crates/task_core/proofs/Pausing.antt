@@ -35,7 +35,7 @@ module _ {O S L : Type 0}
     (shared_is : OpMeaning → List (List ColType) → S → List (List Value) → List (Batch (List Value)) → Type 0)
     (g : Given)
   where
-    stored_paused : (s : State (List Value)) (most : ℕ → ℕ) (infos : List NodeInfo) (stages : List Stage) (queues : List Queue) (rows : List (List (Option (Share O S L)))) (seats : List (Option Flight)) (failed : Bool) (flying : ℕ) (p : ℕ) (paused : Bool) (d : Queue)
+    pub stored_paused : (s : State (List Value)) (most : ℕ → ℕ) (infos : List NodeInfo) (stages : List Stage) (queues : List Queue) (rows : List (List (Option (Share O S L)))) (seats : List (Option Flight)) (failed : Bool) (flying : ℕ) (p : ℕ) (paused : Bool) (d : Queue)
         → p < length queues
         → Stored meaning local_is shared_is g s most infos stages queues rows seats failed flying
         → Stored meaning local_is shared_is g (record s { paused = upd s.paused (suc p) paused }) most infos stages (slice_set queues p (with_paused (slice_index_or queues p d) paused)) rows seats failed flying
@@ -62,7 +62,7 @@ module _ {O S L : Type 0}
         }
 
     -- the peaks stay, since no batch came
-    most_stays : (es : List Entry) (e : ℕ) → peak (plan_of g) e es (opening (plan_of g)) ≡ max (peak (plan_of g) e es (opening (plan_of g))) (length ((state_after (plan_of g) es).waiting e))
+    pub most_stays : (es : List Entry) (e : ℕ) → peak (plan_of g) e es (opening (plan_of g)) ≡ max (peak (plan_of g) e es (opening (plan_of g))) (length ((state_after (plan_of g) es).waiting e))
     most_stays es e = let h = peak_covers (plan_of g) es (opening (plan_of g)) e in omega arith
 
     after_pause_at : (es : List Entry) (infos : List NodeInfo) (stages : List Stage) (queues queues' : List Queue) (rows : List (List (Option (Share O S L)))) (seats : List (Option Flight)) (failed : Bool) (flying room room' capacity capacity' : ℕ) (p : ℕ)

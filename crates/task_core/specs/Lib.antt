@@ -1,6 +1,7 @@
 pub mod Told
 pub mod Stored
 pub mod Queues
+pub mod Stages
 pub mod Calls
 pub mod Known
 pub mod Opening

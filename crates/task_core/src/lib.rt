@@ -1,11 +1,13 @@
 //! The state of a plan's run: what waits, what is in flight, and the history that led there.
 #![tactic(auto)]
 
+mod failing;
 mod queue;
 mod result;
 mod setting;
 mod stage;
 mod state;
+mod upkeep;
 
 pub use result::Finished;
 pub use setting::{Ending, Setting};
