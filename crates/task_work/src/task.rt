@@ -4,6 +4,9 @@ ghost use Rattle.plan_machine.specs.State.{Task as MachineTask};
 ghost use Rattle.task_work.specs.Sites.{Site};
 ghost use Rattle.task_work.specs.Work.{IsWork, IsFruit};
 
+use crate::batches::{fold, stream, tail};
+use crate::row::{close, seal};
+use crate::source::emit;
 use crate::work::{Fruit, Work};
 use plan_nodes::Operator;
 use scalar_value::Mem;
@@ -42,5 +45,14 @@ pub fn run_task<R: Threads + Sync, O: Operator>(rt: &R, alloc: Global, task: Tas
         → IfOk result (λ done. (done.node ≡ task.node) × IsFruit O.meaning O.local_is O.shared_is v t done.fruit)
     }
 {
-    Err(scalar_value::NoMemory)
+    let Task { node, kept, batch: size, work } = task;
+    let fruit = match work {
+        Work::Emit { table, number } => emit(alloc, kept, size, table, number)?,
+        Work::Fold { part, batch } => fold(alloc, part, batch)?,
+        Work::Seal { row } => seal(rt, alloc, row)?,
+        Work::Stream { part, batch, from } => stream(alloc, kept, part, batch, from)?,
+        Work::Close { row } => close(rt, alloc, row)?,
+        Work::Tail { part, number } => tail(alloc, kept, part, number)?,
+    };
+    Ok(Done { node, fruit })
 }
