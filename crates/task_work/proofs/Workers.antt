@@ -7,7 +7,7 @@ use Rattle.std.specs.Arc.{arc_value}
 use Rattle.scalar_value.specs.declared.value.Value.{Value}
 use Rattle.scalar_value.specs.declared.value.ColType.{ColType}
 use Rattle.plan_machine.specs.Batch.{Batch, gathered}
-use Rattle.plan_nodes.specs.Operators.{OpMeaning, Each, flat}
+use Rattle.plan_nodes.specs.Operators.{OpMeaning, Each, flat, end_count}
 use Rattle.task_work.specs.declared.row.Shares.{Shares}
 use Rattle.task_work.specs.declared.work.Part.{Part}
 use Rattle.task_work.specs.declared.work.Share.{Share}
@@ -21,6 +21,9 @@ each_more R [] [] x y h r = (r, tt)
 each_more R [] (z ∷ ys) x y h r = absurd h
 each_more R (w ∷ xs) [] x y h r = absurd h
 each_more R (w ∷ xs) (z ∷ ys) x y h r = (h.0, each_more R xs ys x y h.1 r)
+
+pub each_pushed : {A B : Type 0} (R : A → B → Type 0) (xs : List A) (ys zs : List B) (x : A) (y : B) → Each R xs ys → zs ≡ ys ++ y ∷ [] → R x y → Each R (xs ++ x ∷ []) zs
+each_pushed R xs ys zs x y h e r = subst (Each R (xs ++ x ∷ [])) (sym e) (each_more R xs ys x y h r)
 
 each_length : {A B : Type 0} (R : A → B → Type 0) (xs : List A) (ys : List B) → Each R xs ys → length ys ≡ length xs
 each_length R [] [] h = refl
@@ -117,6 +120,26 @@ module _ {O S L : Type 0}
     all_new (x ∷ xs) (None ∷ row) h n s = absurd n.0
     all_new (x ∷ xs) (Some (share.Table t) ∷ row) h n s = absurd n.0
     all_new (x ∷ xs) (Some (share.Part p) ∷ row) h n s = (one_new x p h.0 n.0 s, all_new xs row h.1 n.1 s)
+
+  -- ---- an operator that a share holds
+  module _ (built : List (List Value)) (streamed : List (Batch (List Value))) (x : Shares O S) (h : Holds built streamed x) (o : O) (is : o ≡ arc_value x.op) where
+    pub op_is : meaning o ≡ v.meaning
+    op_is = ap meaning is ∙ h.op
+
+    pub op_fits : IsTrue ((meaning o).fits v.inputs)
+    op_fits = subst (λ m. IsTrue (m.fits v.inputs)) (sym op_is) h.fits
+
+    pub op_shared : (s made : S) → s ≡ made → (now : List (List Value)) (sent : List (Batch (List Value))) → shared_is v.meaning v.inputs made now sent → shared_is (meaning o) v.inputs s now sent
+    op_shared s made e now sent g = subst (λ m. shared_is m v.inputs s now sent) (sym op_is) (subst (λ z. shared_is v.meaning v.inputs z now sent) (sym e) g)
+
+    pub op_held : (s : S) → s ≡ arc_value x.shared → shared_is (meaning o) v.inputs s built streamed
+    op_held s e = op_shared s (arc_value x.shared) e built streamed h.shared
+
+    pub op_gave : (made z : S) → made ≡ z → (now : List (List Value)) (sent : List (Batch (List Value))) → shared_is (meaning o) v.inputs z now sent → shared_is v.meaning v.inputs made now sent
+    op_gave made z e now sent g = subst (λ k. shared_is v.meaning v.inputs k now sent) (sym e) (subst (λ m. shared_is m v.inputs z now sent) op_is g)
+
+    pub op_count : (count : ℕ) (now : List (List Value)) (sent : List (Batch (List Value))) → count ≡ end_count (meaning o) now sent → count ≡ end_count v.meaning now sent
+    op_count count now sent e = e ∙ ap (λ m. end_count m now sent) op_is
 
   -- ---- the row that a task takes
   module _ (taken : List (Batch (List Value))) (built : List (List Value)) (streamed : List (Batch (List Value))) (row : List (Option (Share O S L))) (r : IsRow meaning local_is shared_is v taken built streamed row) where

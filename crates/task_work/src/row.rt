@@ -1,8 +1,9 @@
-ghost use Rattle.std.specs.Prelude.{◌≡◌, List, IfOk};
+ghost use Rattle.std.specs.Prelude.{◌≡◌, List, [], IfOk, IsTrue, true, false};
 ghost use Rattle.std.specs.Arc.{arc_value};
 ghost use Rattle.scalar_value.specs.declared.value.Value.{Value};
+ghost use Rattle.scalar_value.specs.declared.value.ColType.{ColType};
 ghost use Rattle.plan_machine.specs.State.{Task as MachineTask};
-ghost use Rattle.plan_nodes.specs.Operators.{Each};
+ghost use Rattle.plan_nodes.specs.Operators.{Each, end_count};
 ghost use Rattle.task_work.specs.Rows.{AreParts, shares_of, locals_of, IsNewOf};
 ghost use Rattle.task_work.specs.Sites.{Site};
 ghost use Rattle.task_work.specs.Work.{IsWork, IsFruit};
@@ -71,6 +72,25 @@ fn put_together<O: Operator>(
     Ok(row)
 }
 
+/// How many batches an operator that gathers gives at its end, where it streams nothing; else the count comes later.
+fn count_of<O: Operator>(op: &O, shared: &O::Shared) -> u64
+    requires folds { (O.meaning op.now).shape.folds ≡ true }
+    requires stands {
+        (inputs : List (List ColType)) × (built : List (List Value))
+        × IsTrue ((O.meaning op.now).fits inputs)
+        × O.shared_is (O.meaning op.now) inputs shared.now built []
+    }
+    ensures {
+        (inputs : List (List ColType)) (built : List (List Value))
+        → IsTrue ((O.meaning op.now).fits inputs)
+        → O.shared_is (O.meaning op.now) inputs shared.now built []
+        → (O.meaning op.now).shape.streams ≡ false
+        → result ≡ end_count (O.meaning op.now) built []
+    }
+{
+    if op.shape().streams { 0 } else { op.tails(shared) }
+}
+
 /// The work of a Seal: what all workers gathered, and new parts that share it. Also how many batches the operator gives
 /// at its end, where it streams nothing.
 pub fn seal<R: Threads + Sync, O: Operator>(
@@ -91,7 +111,7 @@ pub fn seal<R: Threads + Sync, O: Operator>(
     let Apart { shares, locals } = take_apart(alloc, row)?;
     let first = &shares[0];
     let made = Arc::new(alloc, first.op.seal(rt, alloc, locals)?)?;
-    let count = if first.op.shape().streams { 0 } else { first.op.tails(&made) };
+    let count = count_of::<O>(&first.op, &made);
     let row = put_together(alloc, shares, &made)?;
     Ok(Fruit::Seal { row, count })
 }
