@@ -17,7 +17,7 @@ use Rattle.task_work.specs.Work.{IsPart, IsStreamed, IsOut, IsRest}
 
 module _ {O S L : Type 0}
   (meaning : O → OpMeaning)
-  (local_is : OpMeaning → List (List ColType) → L → List (Batch (List Value)) → Type 0)
+  (local_is : OpMeaning → List ColType → L → List (Batch (List Value)) → Type 0)
   (shared_is : OpMeaning → List (List ColType) → S → List (List Value) → List (Batch (List Value)) → Type 0)
   (v : Site)
   where
@@ -36,7 +36,7 @@ module _ {O S L : Type 0}
 
   -- what the operator gives
   record Given (m : OpMeaning) (inputs : List (List ColType)) (built : List (List Value)) (taken : List (Batch (List Value))) (b : BatchValue) (from : ℕ) (new : L) (out : BatchValue) (next : Option ℕ) : Type 0 where
-    local : local_is m inputs new (taken ++ item b from ∷ [])
+    local : local_is m (first_of inputs) new (taken ++ item b from ∷ [])
     rows : out.rows ≡ sent_rows m built b.rows from
     kinds : out.kinds ≡ m.columns inputs
     goes_on : next ≡ next_from m built b.rows from
@@ -44,11 +44,11 @@ module _ {O S L : Type 0}
   abbrev pub Gives : OpMeaning → S → L → BatchValue → ℕ → L → BatchValue → Option ℕ → Type 0
   Gives m s old b from new out next =
       (inputs : List (List ColType)) (built : List (List Value)) (taken : List (Batch (List Value)))
-      → IsTrue (m.fits inputs) → shared_is m inputs s built [] → local_is m inputs old taken → b.kinds ≡ first_of inputs
-      → local_is m inputs new (taken ++ item b from ∷ []) × (out.rows ≡ sent_rows m built b.rows from) × (out.kinds ≡ m.columns inputs) × (next ≡ next_from m built b.rows from)
+      → IsTrue (m.fits inputs) → shared_is m inputs s built [] → local_is m (first_of inputs) old taken → b.kinds ≡ first_of inputs
+      → local_is m (first_of inputs) new (taken ++ item b from ∷ []) × (out.rows ≡ sent_rows m built b.rows from) × (out.kinds ≡ m.columns inputs) × (next ≡ next_from m built b.rows from)
 
   module _ (t : Task (List Value)) (p : Part O S L) (b : BatchValue) (from : ℕ)
-    (part : IsPart meaning local_is shared_is v t.took t.built [] p) (work : IsStreamed meaning local_is shared_is v t b from)
+    (part : IsPart meaning local_is shared_is v (first_of v.inputs) t.took t.built [] p) (work : IsStreamed meaning local_is shared_is v t b from)
     (o : O) (s : S) (is_op : o ≡ arc_value p.op) (is_shared : s ≡ arc_value p.shared)
     (new : L) (out : BatchValue) (next : Option ℕ) (gives : Gives (meaning o) s p.local b from new out next)
     where
@@ -58,11 +58,11 @@ module _ {O S L : Type 0}
         let g = at v.inputs t.built t.took part.is_shared.fits part.is_shared.shared part.local work.columns in
         record { local = g.0; rows = g.1; kinds = g.2; goes_on = g.3 }
 
-    pub streamed_part : IsPart meaning local_is shared_is v (t.took ++ t.batch ∷ []) t.built [] (record { op = p.op; shared = p.shared; local = new })
+    pub streamed_part : IsPart meaning local_is shared_is v (first_of v.inputs) (t.took ++ t.batch ∷ []) t.built [] (record { op = p.op; shared = p.shared; local = new })
     streamed_part =
         record {
           is_shared = record { source = part.is_shared.source; op = part.is_shared.op; fits = part.is_shared.fits; columns = part.is_shared.columns; shared = part.is_shared.shared };
-          local = subst (λ z. local_is v.meaning v.inputs new (t.took ++ z ∷ [])) (sym work.batch) given.local;
+          local = subst (λ z. local_is v.meaning (first_of v.inputs) new (t.took ++ z ∷ [])) (sym work.batch) given.local;
         }
 
     pub streamed_out : (kept : Bool) (i j : Option ℕ) (made : BatchValue) → v.kept ≡ kept → j ≡ b.index → i ≡ marked kept j → made ≡ record out { index = i }

@@ -33,7 +33,7 @@ each_length R (x ∷ xs) (y ∷ ys) h = ap suc (each_length R xs ys h.1)
 
 module _ {O S L : Type 0}
   (meaning : O → OpMeaning)
-  (local_is : OpMeaning → List (List ColType) → L → List (Batch (List Value)) → Type 0)
+  (local_is : OpMeaning → List ColType → L → List (Batch (List Value)) → Type 0)
   (shared_is : OpMeaning → List (List ColType) → S → List (List Value) → List (Batch (List Value)) → Type 0)
   (v : Site)
   where
@@ -49,8 +49,8 @@ module _ {O S L : Type 0}
   AllHold built streamed [] = Unit {0}
   AllHold built streamed (x ∷ xs) = Holds built streamed x × AllHold built streamed xs
 
-  module _ (built : List (List Value)) (streamed : List (Batch (List Value))) where
-    each_parts : (row : List (Option (Share O S L))) (lists : List (List (Batch (List Value)))) → Each (IsPartOf meaning local_is shared_is v built streamed) row lists → AreParts row
+  module _ (kinds : List ColType) (built : List (List Value)) (streamed : List (Batch (List Value))) where
+    each_parts : (row : List (Option (Share O S L))) (lists : List (List (Batch (List Value)))) → Each (IsPartOf meaning local_is shared_is v kinds built streamed) row lists → AreParts row
     each_parts [] lists h = tt
     each_parts (None ∷ row) [] h = absurd h
     each_parts (None ∷ row) (l ∷ lists) h = absurd h.0
@@ -59,7 +59,7 @@ module _ {O S L : Type 0}
     each_parts (Some (share.Part p) ∷ row) [] h = absurd h
     each_parts (Some (share.Part p) ∷ row) (l ∷ lists) h = each_parts row lists h.1
 
-    each_local : (row : List (Option (Share O S L))) (lists : List (List (Batch (List Value)))) → Each (IsPartOf meaning local_is shared_is v built streamed) row lists → Each (local_is v.meaning v.inputs) (locals_of row) lists
+    each_local : (row : List (Option (Share O S L))) (lists : List (List (Batch (List Value)))) → Each (IsPartOf meaning local_is shared_is v kinds built streamed) row lists → Each (local_is v.meaning kinds) (locals_of row) lists
     each_local [] [] h = tt
     each_local [] (l ∷ lists) h = absurd h
     each_local (None ∷ row) [] h = absurd h
@@ -69,7 +69,7 @@ module _ {O S L : Type 0}
     each_local (Some (share.Part p) ∷ row) [] h = absurd h
     each_local (Some (share.Part p) ∷ row) (l ∷ lists) h = (h.0.local, each_local row lists h.1)
 
-    each_holds : (row : List (Option (Share O S L))) (lists : List (List (Batch (List Value)))) → Each (IsPartOf meaning local_is shared_is v built streamed) row lists → AllHold built streamed (shares_of row)
+    each_holds : (row : List (Option (Share O S L))) (lists : List (List (Batch (List Value)))) → Each (IsPartOf meaning local_is shared_is v kinds built streamed) row lists → AllHold built streamed (shares_of row)
     each_holds [] lists h = tt
     each_holds (None ∷ row) [] h = absurd h
     each_holds (None ∷ row) (l ∷ lists) h = absurd h.0
@@ -79,7 +79,7 @@ module _ {O S L : Type 0}
     each_holds (Some (share.Part p) ∷ row) (l ∷ lists) h =
         (record { source = h.0.is_shared.source; op = h.0.is_shared.op; fits = h.0.is_shared.fits; columns = h.0.is_shared.columns; shared = h.0.is_shared.shared }, each_holds row lists h.1)
 
-    each_count : (row : List (Option (Share O S L))) (lists : List (List (Batch (List Value)))) → Each (IsPartOf meaning local_is shared_is v built streamed) row lists → length (shares_of row) ≡ length row
+    each_count : (row : List (Option (Share O S L))) (lists : List (List (Batch (List Value)))) → Each (IsPartOf meaning local_is shared_is v kinds built streamed) row lists → length (shares_of row) ≡ length row
     each_count [] lists h = refl
     each_count (None ∷ row) [] h = absurd h
     each_count (None ∷ row) (l ∷ lists) h = absurd h.0
@@ -102,17 +102,17 @@ module _ {O S L : Type 0}
   flat-blanks [] = refl
   flat-blanks (x ∷ xs) = flat-blanks xs
 
-  module _ (had : List (List Value)) (gone : List (Batch (List Value))) (made : S) (built : List (List Value)) (streamed : List (Batch (List Value))) where
-    one_new : (x : Shares O S) (p : Part O S L) → Holds had gone x → IsNew meaning local_is made x p → shared_is v.meaning v.inputs made built streamed → IsPart meaning local_is shared_is v [] built streamed p
+  module _ (kinds : List ColType) (had : List (List Value)) (gone : List (Batch (List Value))) (made : S) (built : List (List Value)) (streamed : List (Batch (List Value))) where
+    one_new : (x : Shares O S) (p : Part O S L) → Holds had gone x → IsNew meaning local_is made x p → shared_is v.meaning v.inputs made built streamed → IsPart meaning local_is shared_is v kinds [] built streamed p
     one_new x p h n s =
         let op : meaning (arc_value p.op) ≡ v.meaning = ap (λ a. meaning (arc_value a)) n.op ∙ h.op in
         record {
           is_shared = record { source = h.source; op = op; fits = h.fits; columns = h.columns; shared = subst (λ z. shared_is v.meaning v.inputs z built streamed) (sym n.shared) s };
-          local = subst (λ m. local_is m v.inputs p.local []) op (n.local v.inputs);
+          local = subst (λ m. local_is m kinds p.local []) op (n.local kinds);
         }
 
     all_new : (xs : List (Shares O S)) (row : List (Option (Share O S L))) → AllHold had gone xs → Each (IsNewOf meaning local_is made) xs row → shared_is v.meaning v.inputs made built streamed
-        → Each (IsPartOf meaning local_is shared_is v built streamed) row (blanks xs)
+        → Each (IsPartOf meaning local_is shared_is v kinds built streamed) row (blanks xs)
     unfolding blanks
     all_new [] [] h n s = tt
     all_new [] (y ∷ row) h n s = absurd n
@@ -142,25 +142,29 @@ module _ {O S L : Type 0}
     op_count count now sent e = e ∙ ap (λ m. end_count m now sent) op_is
 
   -- ---- the row that a task takes
-  module _ (taken : List (Batch (List Value))) (built : List (List Value)) (streamed : List (Batch (List Value))) (row : List (Option (Share O S L))) (r : IsRow meaning local_is shared_is v taken built streamed row) where
+  module _ (kinds : List ColType) (taken : List (Batch (List Value))) (built : List (List Value)) (streamed : List (Batch (List Value))) (row : List (Option (Share O S L))) (r : IsRow meaning local_is shared_is v kinds taken built streamed row) where
     pub row_parts : AreParts row
-    row_parts = each_parts built streamed row r.lists r.parts
+    row_parts = each_parts kinds built streamed row r.lists r.parts
 
     pub row_some : 1 ≤ v.workers → (xs : List (Shares O S)) → xs ≡ shares_of row → 0 < length xs
-    row_some w xs e = omega (arith, ap length e, each_count built streamed row r.lists r.parts, r.workers)
+    row_some w xs e = omega (arith, ap length e, each_count kinds built streamed row r.lists r.parts, r.workers)
 
     pub row_first : 1 ≤ v.workers → (xs : List (Shares O S)) → xs ≡ shares_of row → (x : Shares O S) → x ≡ get_or xs 0 x → Holds built streamed x
-    row_first w xs e x at = first_holds built streamed xs x (row_some w xs e) at (subst (AllHold built streamed) (sym e) (each_holds built streamed row r.lists r.parts))
+    row_first w xs e x at = first_holds kinds built streamed xs x (row_some w xs e) at (subst (AllHold built streamed) (sym e) (each_holds kinds built streamed row r.lists r.parts))
 
-    pub row_locals : (m : OpMeaning) → m ≡ v.meaning → (locals : List L) → locals ≡ locals_of row → Each (local_is m v.inputs) locals r.lists
-    row_locals m e locals is = subst (λ z. Each (local_is z v.inputs) locals r.lists) (sym e) (subst (λ z. Each (local_is v.meaning v.inputs) z r.lists) (sym is) (each_local built streamed row r.lists r.parts))
+    pub row_locals : (m : OpMeaning) → m ≡ v.meaning → (locals : List L) → locals ≡ locals_of row → Each (local_is m kinds) locals r.lists
+    row_locals m e locals is = subst (λ z. Each (local_is z kinds) locals r.lists) (sym e) (subst (λ z. Each (local_is v.meaning kinds) z r.lists) (sym is) (each_local kinds built streamed row r.lists r.parts))
 
-    pub row_new : (xs : List (Shares O S)) → xs ≡ shares_of row → (news : List (Option (Share O S L))) (made : S) → Each (IsNewOf meaning local_is made) xs news
-        → (now : List (List Value)) (sent : List (Batch (List Value))) → shared_is v.meaning v.inputs made now sent → IsRow meaning local_is shared_is v [] now sent news
-    row_new xs e news made n now sent s =
+    pub row_at : (of : OpMeaning → List ColType) → of v.meaning ≡ kinds → (m : OpMeaning) → m ≡ v.meaning → (locals : List L) → locals ≡ locals_of row → Each (local_is m (of m)) locals r.lists
+    row_at of same m e locals is =
+        subst (λ z. Each (local_is z (of z)) locals r.lists) (sym e) (subst (λ ks. Each (local_is v.meaning ks) locals r.lists) (sym same) (row_locals v.meaning refl locals is))
+
+    pub row_new : (later : List ColType) → (xs : List (Shares O S)) → xs ≡ shares_of row → (news : List (Option (Share O S L))) (made : S) → Each (IsNewOf meaning local_is made) xs news
+        → (now : List (List Value)) (sent : List (Batch (List Value))) → shared_is v.meaning v.inputs made now sent → IsRow meaning local_is shared_is v later [] now sent news
+    row_new later xs e news made n now sent s =
         record {
           lists = blanks xs;
-          parts = all_new built streamed made now sent xs news (subst (AllHold built streamed) (sym e) (each_holds built streamed row r.lists r.parts)) n s;
+          parts = all_new later built streamed made now sent xs news (subst (AllHold built streamed) (sym e) (each_holds kinds built streamed row r.lists r.parts)) n s;
           all = flat-blanks xs;
-          workers = each_length (IsNewOf meaning local_is made) xs news n ∙ (ap length e ∙ (each_count built streamed row r.lists r.parts ∙ r.workers));
+          workers = each_length (IsNewOf meaning local_is made) xs news n ∙ (ap length e ∙ (each_count kinds built streamed row r.lists r.parts ∙ r.workers));
         }

@@ -32,12 +32,12 @@ module _ {O S L : Type 0} where
   locals_of (Some (share.Part p) ∷ row) = p.local ∷ locals_of row
 
   -- a new part: the share of the operator, a share of what was made, and a local part that stands for no batch
-  pub record IsNew (meaning : O → OpMeaning) (local_is : OpMeaning → List (List ColType) → L → List (Batch (List Value)) → Type 0) (made : S) (old : Shares O S) (p : Part O S L) : Type 0 where
+  pub record IsNew (meaning : O → OpMeaning) (local_is : OpMeaning → List ColType → L → List (Batch (List Value)) → Type 0) (made : S) (old : Shares O S) (p : Part O S L) : Type 0 where
     pub op : p.op ≡ old.op
     pub shared : arc_value p.shared ≡ made
-    pub local : (inputs : List (List ColType)) → local_is (meaning (arc_value p.op)) inputs p.local []
+    pub local : (kinds : List ColType) → local_is (meaning (arc_value p.op)) kinds p.local []
 
-  abbrev pub IsNewOf : (O → OpMeaning) → (OpMeaning → List (List ColType) → L → List (Batch (List Value)) → Type 0) → S → Shares O S → Option (Share O S L) → Type 0
+  abbrev pub IsNewOf : (O → OpMeaning) → (OpMeaning → List ColType → L → List (Batch (List Value)) → Type 0) → S → Shares O S → Option (Share O S L) → Type 0
   IsNewOf meaning local_is made old None = ⊥
   IsNewOf meaning local_is made old (Some (share.Table t)) = ⊥
   IsNewOf meaning local_is made old (Some (share.Part p)) = IsNew meaning local_is made old p

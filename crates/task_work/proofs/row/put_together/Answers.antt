@@ -17,6 +17,6 @@ loop-old-preserved g c =
         (record {
            op = refl;
            shared = c.in_ok-try_clone.ensures;
-           local = λ inputs. subst (λ o. g.O.Operator.local_is (g.O.Operator.meaning o) inputs c.in_ok-local.local []) c.deref.ensures (c.in_ok-local.ensures inputs);
+           local = λ kinds. subst (λ o. g.O.Operator.local_is (g.O.Operator.meaning o) kinds c.in_ok-local.local []) c.deref.ensures (c.in_ok-local.ensures kinds);
          });
     }

@@ -1,0 +1,26 @@
+-- Lists whose places stand for numbers from 1 on, where one place is written.
+use Rattle.std.proofs.Common.{◌≡◌, ◌≢◌, ℕ, suc, ◌<◌, List, [], ◌∷◌, length, refl, sym, ap, subst, ◌∙◌, ◌⊎◌, inl, inr, arith}
+use Rattle.std.specs.Prelude.{slice_index_or, slice_set}
+use Rattle.plan_machine.proofs.Weigh.{same_or}
+use Rattle.std.proofs.lemmas.List.{get_or-set_same, get_or-set_other, length-set}
+use Rattle.task_core.specs.Stored.{Held}
+
+-- an element of a list that has one
+pub some_of : {B : Type 0} (p : ℕ) (xs : List B) → p < length xs → B
+some_of p [] lt = absurd (let no : ⊥ = omega arith in no)
+some_of p (x ∷ xs) lt = x
+
+module _ {B : Type 0} where
+  pub held_map : (R R' : ℕ → B → Type 0) (xs : List B) → Held R xs → ((n : ℕ) (y : B) → R n y → R' n y) → Held R' xs
+  held_map R R' xs h f k d lt = f (suc k) (slice_index_or xs k d) (h k d lt)
+
+  -- one place is written, and all others stand for what they stood for
+  pub held_set : (R R' : ℕ → B → Type 0) (xs : List B) (p : ℕ) (x : B) → Held R xs → R' (suc p) x → ((n : ℕ) (y : B) → n ≢ suc p → R n y → R' n y) → Held R' (slice_set xs p x)
+  held_set R R' xs p x h here others k d lt = by (same_or k p)
+    where
+      within : k < length xs
+      within = subst (λ m. k < m) (length-set xs p x) lt
+
+      by : (k ≡ p) ⊎ (k ≢ p) → R' (suc k) (slice_index_or (slice_set xs p x) k d)
+      by (inl e) = subst (λ j. R' (suc j) (slice_index_or (slice_set xs p x) j d)) (sym e) (subst (λ y. R' (suc p) y) (sym (get_or-set_same xs p x d (subst (λ j. j < length xs) e within))) here)
+      by (inr ne) = subst (λ y. R' (suc k) y) (sym (get_or-set_other xs p k x d ne)) (others (suc k) (slice_index_or xs k d) (λ e. ne (omega arith)) (h k d within))

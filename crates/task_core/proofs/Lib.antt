@@ -1,0 +1,5 @@
+pub mod Held
+pub mod Growing
+pub mod Pausing
+pub mod Known
+pub mod Seated

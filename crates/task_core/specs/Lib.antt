@@ -1,0 +1,6 @@
+pub mod Told
+pub mod Stored
+pub mod Queues
+pub mod Calls
+pub mod Known
+pub mod Opening

@@ -1,0 +1,12 @@
+//! The state of a plan's run: what waits, what is in flight, and the history that led there.
+#![tactic(auto)]
+
+mod queue;
+mod result;
+mod setting;
+mod stage;
+mod state;
+
+pub use result::Finished;
+pub use setting::{Ending, Setting};
+pub use state::PlanState;
