@@ -2,3 +2,4 @@ pub mod Held
 pub mod Growing
 pub mod Pausing
 pub mod Known
+pub mod Choosing
