@@ -3,3 +3,4 @@ pub mod Growing
 pub mod Pausing
 pub mod Known
 pub mod Choosing
+pub mod Seated

@@ -15,7 +15,7 @@ use Rattle.plan_machine.specs.Phases.{first_phase_of}
 use Rattle.plan_machine.specs.State.{State, Task, tasks_at, opening}
 use Rattle.plan_machine.specs.History.{IsHistory, state_after, peak}
 use Rattle.plan_machine.specs.WellFormed.{Lawful, WellFormed}
-use Rattle.plan_nodes.specs.Operators.{OpMeaning, item}
+use Rattle.plan_nodes.specs.Operators.{OpMeaning, item, first_of, folded_of}
 use Rattle.plan_nodes.specs.Plans.{IsPlan}
 use Rattle.task_work.specs.Sites.{Site}
 use Rattle.task_work.specs.declared.work.Waiting.{Waiting}
@@ -97,17 +97,19 @@ takes_all job.Stream = false
 takes_all job.Close = true
 takes_all job.Tail = false
 
+-- the shares of all workers at node n are away for a Seal or a Close of some worker
+abbrev pub AllAway : (ℕ → Option (Task (List Value))) → ℕ → Type 0
+AllAway tasks n = (w : ℕ) × (t : Task (List Value)) × (tasks w ≡ Some t) × (t.node ≡ n) × (takes_all t.job ≡ true)
+
 -- what a share of worker w at node n is away for: a task of that worker there, or a Seal or a Close of any worker
 abbrev pub Away : (ℕ → Option (Task (List Value))) → ℕ → ℕ → Type 0
-Away tasks n w =
-    ((t : Task (List Value)) × (tasks w ≡ Some t) × (t.node ≡ n))
-    ⊎ ((w' : ℕ) × (t : Task (List Value)) × (tasks w' ≡ Some t) × (t.node ≡ n) × (takes_all t.job ≡ true))
+Away tasks n w = ((t : Task (List Value)) × (tasks w ≡ Some t) × (t.node ≡ n)) ⊎ AllAway tasks n
 
 -- ---- shares
 
 module _ {O S L : Type 0}
     (meaning : O → OpMeaning)
-    (local_is : OpMeaning → List (List ColType) → L → List (Batch (List Value)) → Type 0)
+    (local_is : OpMeaning → List ColType → L → List (Batch (List Value)) → Type 0)
     (shared_is : OpMeaning → List (List ColType) → S → List (List Value) → List (Batch (List Value)) → Type 0)
   where
     -- A share that stands at a node: a source's table; else the operator, what was gathered and streamed, and while the
@@ -116,9 +118,9 @@ module _ {O S L : Type 0}
     PartStands v last Emitting taken built streamed (share.Table t) = work.IsTable meaning local_is shared_is v t
     PartStands v last Emitting taken built streamed (share.Part p) = ⊥
     PartStands v last Folding taken built streamed (share.Table t) = ⊥
-    PartStands v last Folding taken built streamed (share.Part p) = work.IsPart meaning local_is shared_is v taken built [] p
+    PartStands v last Folding taken built streamed (share.Part p) = work.IsPart meaning local_is shared_is v (folded_of v.meaning v.inputs) taken built [] p
     PartStands v last Streaming taken built streamed (share.Table t) = ⊥
-    PartStands v last Streaming taken built streamed (share.Part p) = work.IsPart meaning local_is shared_is v taken built [] p
+    PartStands v last Streaming taken built streamed (share.Part p) = work.IsPart meaning local_is shared_is v (first_of v.inputs) taken built [] p
     PartStands v last Tailing taken built streamed (share.Table t) = ⊥
     PartStands v last Tailing taken built streamed (share.Part p) = work.IsShared meaning local_is shared_is v built streamed p
     PartStands v last Sealed taken built streamed (share.Table t) = ⊥
@@ -147,7 +149,7 @@ module _ {O S L : Type 0}
 
     -- the shares of all workers at a node, which are one for each, or none at all while a Seal or a Close has them
     pub record RowIs (v : Site) (last : Bool) (failed : Bool) (phase : Phase) (locals : ℕ → List (Batch (List Value))) (built : List (List Value)) (streamed : List (Batch (List Value))) (tasks : ℕ → Option (Task (List Value))) (n : ℕ) (row : List (Option (Share O S L))) : Type 0 where
-      pub size : (length row ≡ v.workers) ⊎ (row ≡ [])
+      pub size : (length row ≡ v.workers) ⊎ ((row ≡ []) × (failed ≡ false → is_live last phase ≡ true → AllAway tasks n))
       pub slots : (k : ℕ) → k < v.workers → SlotIs v last failed phase (locals (suc k)) built streamed (Away tasks n (suc k)) (slice_index_or row k None)
 
     -- ---- the whole

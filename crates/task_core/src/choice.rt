@@ -1,4 +1,5 @@
 ghost use Rattle.std.specs.Prelude.{◌≡◌, ℕ, ◌<◌, ◌↔◌, IsTrue, true, false, length, None, IfSome, IfNone};
+ghost use Rattle.plan_machine.specs.declared.entry.Phase.TheVariants.{Done};
 ghost use Rattle.plan_machine.specs.Plan.{IsNode, IsEdge, IsWorker};
 ghost use Rattle.plan_machine.specs.State.{IsEndedEdge};
 ghost use Rattle.plan_machine.specs.Enabled.{CanPause};
@@ -74,13 +75,20 @@ impl<O: Operator> PlanState<O> {
         self.queues[(edge - 1) as usize].edge.paused
     }
 
+    /// Whether a node has ended.
+    fn is_done(&self, node: u32) -> bool
+        requires { IsNode (plan_of self.now.given) node }
+        ensures { IsTrue result ↔ ((state_of self.now).phase node ≡ Done) }
+    {
+        self.stages[(node - 1) as usize].phase == Phase::Done
+    }
+
     /// Whether an edge has ended: the node that gives it has, and nothing waits on it.
     fn is_ended(&self, edge: u32) -> bool
         requires { IsNode (plan_of self.now.given) edge }
         ensures { IsTrue result ↔ IsEndedEdge (plan_of self.now.given) (state_of self.now) edge }
     {
-        let place = (edge - 1) as usize;
-        self.stages[place].phase == Phase::Done && self.queues[place].edge.waiting == 0
+        self.is_done(edge) && !self.waits(edge)
     }
 
     /// Whether an edge has to be paused.
