@@ -3,4 +3,5 @@ pub mod Growing
 pub mod Pausing
 pub mod Known
 pub mod Choosing
+pub mod Choices
 pub mod Seated

@@ -161,10 +161,15 @@ impl<O: Operator> PlanState<O> {
         ensures some { IfSome result (λ f. IsClaimChoice (plan_of self.now.given) (state_of self.now) worker f.node f.job f.number) }
         ensures none { IfNone result (NoClaim (plan_of self.now.given) (state_of self.now) worker) }
     {
-        if self.failed || self.has_task(worker) || self.pause_due() {
-            None
-        } else {
-            self.first_work()
+        if self.failed {
+            return None;
         }
+        if self.has_task(worker) {
+            return None;
+        }
+        if self.pause_due() {
+            return None;
+        }
+        self.first_work()
     }
 }
