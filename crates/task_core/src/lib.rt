@@ -2,6 +2,7 @@
 #![tactic(auto)]
 
 mod failing;
+mod choice;
 mod queue;
 mod result;
 mod setting;
