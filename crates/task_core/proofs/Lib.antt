@@ -3,3 +3,5 @@ pub mod Growing
 pub mod Pausing
 pub mod Known
 pub mod Seated
+pub mod Landing
+pub mod Rows

@@ -3,3 +3,4 @@ pub mod Stored
 pub mod Queues
 pub mod Calls
 pub mod Known
+pub mod Delivering
