@@ -5,3 +5,4 @@ pub mod Known
 pub mod Seated
 pub mod Landing
 pub mod Rows
+pub mod Delivering

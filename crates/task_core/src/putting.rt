@@ -1,25 +1,37 @@
 // What a delivery does to the parts of a plan's state.
 
-ghost use Rattle.std.specs.Prelude.{◌≡◌, ◌<◌, ◌-◌, ◌^◌, ◌++◌, [], ◌∷◌, List, length, map, Some, None, Option, slice_set, slice_index_or, vec_len};
+ghost use Rattle.std.specs.Prelude.{◌≡◌, ◌<◌, ◌-◌, ◌^◌, ◌++◌, [], ◌∷◌, List, length, map, Some, None, Option, slice_set, slice_index_or, vec_len, vec_capacity};
 ghost use Rattle.std.specs.VecDeque.{deque_len, deque_capacity};
 ghost use Rattle.task_core.specs.declared.queue.Queue.{Queue};
 ghost use Rattle.task_core.specs.declared.stage.Stage.{Stage};
-ghost use Rattle.task_core.specs.Delivering.{with_less_busy, IsGrown};
+ghost use Rattle.plan_machine.specs.declared.entry.Entry.TheVariants as EntryOf;
+ghost use Rattle.task_core.specs.Delivering.{with_less_busy, IsGrown, IsDeparting};
 
 use crate::queue::Queue;
 use crate::stage::{Flight, Stage};
+use plan_machine::Entry;
 use task_work::{Share, Waiting};
 
-/// A worker's task at a node is no longer in flight.
-pub fn leave(seats: &mut Vec<Option<Flight>>, seat: usize, stages: &mut Vec<Stage>, place: usize)
-    requires seat { seat < vec_len seats.old }
-    requires place { place < vec_len stages.old }
-    requires busy { (d : Stage) → 0 < (slice_index_or stages.old.items place d).busy }
-    ensures seats { seats.new.items ≡ slice_set seats.old.items seat None }
-    ensures stages { (d : Stage) → stages.new.items ≡ slice_set stages.old.items place (with_less_busy (slice_index_or stages.old.items place d)) }
+/// A worker's task at a node is no longer in flight, which the history says.
+pub fn depart(
+    seats: &mut Vec<Option<Flight>>,
+    stages: &mut Vec<Stage>,
+    history: &mut Vec<Entry>,
+    flying: &mut usize,
+    worker: u32,
+    node: u32,
+)
+    requires { IsDeparting seats.old.items stages.old.items flying.old (length history.old.items) (vec_capacity history.old) worker node }
+    ensures seats { seats.new.items ≡ slice_set seats.old.items (worker - 1) None }
+    ensures stages { (d : Stage) → stages.new.items ≡ slice_set stages.old.items (node - 1) (with_less_busy (slice_index_or stages.old.items (node - 1) d)) }
+    ensures history { history.new.items ≡ history.old.items ++ EntryOf.Deliver worker ∷ [] }
+    ensures capacity { vec_capacity history.new ≡ vec_capacity history.old }
+    ensures flying { flying.new ≡ flying.old - 1 }
 {
-    seats[seat] = None;
-    stages[place].busy -= 1;
+    seats[(worker - 1) as usize] = None;
+    stages[(node - 1) as usize].busy -= 1;
+    history.push_reserved(Entry::Deliver { worker });
+    *flying -= 1;
 }
 
 /// Puts a worker's share of a node back.
