@@ -1,6 +1,6 @@
 -- Rows that fit the types of columns: behind one another, in part, by a test and at places.
 use Prim.Native.Nat.{zero}
-use Rattle.std.proofs.Common.{◌≡◌, ℕ, suc, ◌<◌, arith, Bool, true, false, ◌&&◌, cond, List, [], ◌∷◌, ◌++◌, take, drop, filter, length, refl, sym, ◌∙◌, ap, ap₂, subst, ◌-◌}
+use Rattle.std.proofs.Common.{◌≡◌, ℕ, suc, ◌<◌, arith, Bool, true, false, ◌&&◌, cond, List, [], ◌∷◌, take, drop, filter, length, refl, sym, ◌∙◌, ap, ap₂, ◌-◌}
 use Rattle.std.specs.Prelude.{All, IsTrue, slice_index_or, slice_range}
 use Rattle.std.proofs.lemmas.List.Elements.{All-head, All-tail}
 use Rattle.scalar_value.specs.declared.value.ColType.{ColType}

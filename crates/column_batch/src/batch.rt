@@ -59,12 +59,7 @@ fn copy_kinds(alloc: Global, schema: &Schema) -> Mem<Seq<ColType>>
 
 impl Batch {
     /// A batch of copies of rows that fit the columns of this schema. The only error is want of memory.
-    pub fn from_rows(
-        alloc: Global,
-        index: Option<u64>,
-        schema: &Schema,
-        rows: &[Row],
-    ) -> Mem<Batch>
+    pub fn from_rows(alloc: Global, index: Option<u64>, schema: &Schema, rows: &[Row]) -> Mem<Batch>
         requires { IsTrue (fit_rows schema.now rows.now) }
         ensures { IfOk result (λ b. b ≡ record { index = index; kinds = kinds_of schema.now; rows = rows.now }) }
     {
@@ -162,7 +157,11 @@ impl Batch {
     pub fn into_rows(self) -> Seq<Row>
         ensures { result ≡ self.rows }
     {
-        let Batch { index: _, kinds: _, rows } = self;
+        let Batch {
+            index: _,
+            kinds: _,
+            rows,
+        } = self;
         rows
     }
 

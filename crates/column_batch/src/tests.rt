@@ -1,5 +1,5 @@
 //! A batch of two columns through each of its calls.
-ghost use Rattle.std.specs.Prelude.{◌≡◌, [], ◌∷◌, IfOk, pos, true, false};
+ghost use Rattle.std.specs.Prelude.{◌≡◌, [], ◌∷◌, IfOk, length, pos, true, false};
 
 use crate::Batch;
 use row_table::{Field, Row, Schema};
@@ -33,34 +33,19 @@ fn schema_of(alloc: Global) -> Mem<Schema>
     Ok(schema)
 }
 
-fn numbers_of(batch: &Batch, alloc: Global) -> Mem<Seq<Value>> {
-    let mut numbers = Seq::new(alloc);
-    for row in batch.rows() {
-        if let Some(value) = row.get(0) {
-            numbers.push(value.copy()?)?;
-        }
-    }
-    Ok(numbers)
-}
-
 /// Whether the batch has this index, the types of the columns, and in its first column these numbers.
-fn expect_batch<R: Abort>(
-    rt: &R,
-    alloc: Global,
-    batch: &Batch,
-    index: Option<u64>,
-    numbers: &[i64],
-) -> Mem<()> {
+fn expect_batch<R: Abort>(rt: &R, batch: &Batch, index: Option<u64>, numbers: &[i64]) {
     assert_eq!(rt; batch.index(), index);
     assert_eq!(rt; batch.kinds(), [ColType::Int, ColType::Lgl].as_slice());
     assert_eq!(rt; batch.len(), numbers.len());
     assert_eq!(rt; batch.is_empty(), numbers.is_empty());
-    let found = numbers_of(batch, alloc)?;
-    assert_eq!(rt; found.len(), numbers.len());
-    for (value, wanted) in found.as_slice().iter().zip(numbers) {
-        assert!(rt; *value == Value::Int(*wanted));
+    for (row, wanted) in batch.rows().iter().zip(numbers) {
+        if let Some(value) = row.get(0) {
+            assert!(rt; *value == Value::Int(*wanted));
+        } else {
+            assert!(rt; false, "no value");
+        }
     }
-    Ok(())
 }
 
 fn crosses<T: Send + Sync>(_: &T) {}
@@ -70,42 +55,65 @@ fn rows_of(alloc: Global) -> Mem<Seq<Row>>
         (Value.Int (pos 10) ∷ Value.Missing ∷ [])
         ∷ (Value.Int (pos 20) ∷ Value.Lgl true ∷ [])
         ∷ (Value.Int (pos 30) ∷ Value.Lgl false ∷ [])
-        ∷ (Value.Int (pos 40) ∷ Value.Missing ∷ [])
         ∷ []) }
 {
     let mut rows = Seq::new(alloc);
     rows.push(row_of(alloc, Value::Int(10), Value::Missing)?)?;
     rows.push(row_of(alloc, Value::Int(20), Value::Lgl(true))?)?;
     rows.push(row_of(alloc, Value::Int(30), Value::Lgl(false))?)?;
-    rows.push(row_of(alloc, Value::Int(40), Value::Missing)?)?;
     Ok(rows)
 }
 
-#[test]
-fn batches_give_their_rows(rt: HostRuntime) -> Result<(), Fail> {
-    let alloc = rt.alloc();
+fn batch_of(alloc: Global) -> Mem<Batch>
+    ensures { IfOk result (λ b. length b.rows ≡ 3) }
+{
     let rows = rows_of(alloc)?;
-    let mut batch = Batch::from_rows(alloc, Some(7), &schema_of(alloc)?, rows.as_slice())?;
+    let schema = schema_of(alloc)?;
+    Batch::from_rows(alloc, Some(7), &schema, rows.as_slice())
+}
+
+#[test]
+fn batches_are_sliced(rt: HostRuntime) -> Result<(), Fail> {
+    let batch = batch_of(rt.alloc())?;
     crosses(&batch);
-    expect_batch(&rt, alloc, &batch, Some(7), &[10, 20, 30, 40])?;
-    let parts = [
-        (batch.slice(1, 3)?, [20, 30].as_slice()),
-        (batch.slice(0, 4)?, [10, 20, 30, 40].as_slice()),
-        (batch.slice(4, 4)?, [].as_slice()),
-        (batch.take(&[3, 0, 3])?, [40, 10, 40].as_slice()),
-        (batch.take(&[])?, [].as_slice()),
-        (batch.copy()?, [10, 20, 30, 40].as_slice()),
-        (batch.duplicate()?, [10, 20, 30, 40].as_slice()),
+    expect_batch(&rt, &batch, Some(7), &[10, 20, 30]);
+    let table = [
+        ((1, 3), [20, 30].as_slice()),
+        ((0, 3), [10, 20, 30].as_slice()),
+        ((0, 1), [10].as_slice()),
+        ((3, 3), [].as_slice()),
     ];
-    for (part, wanted) in parts {
-        expect_batch(&rt, alloc, &part, Some(7), wanted)?;
+    for ((from, to), wanted) in table {
+        if from <= to && to <= batch.len() {
+            expect_batch(&rt, &batch.slice(from, to)?, Some(7), wanted);
+        } else {
+            assert!(rt; false, "no such rows");
+        }
     }
-    assert!(rt; batch.row(2)? == row_of(alloc, Value::Int(30), Value::Lgl(false))?);
+    Ok(())
+}
+
+#[test]
+fn rows_are_taken_at_places(rt: HostRuntime) -> Result<(), Fail> {
+    let mut batch = batch_of(rt.alloc())?;
+    expect_batch(&rt, &batch.take(&[2, 0, 2])?, Some(7), &[30, 10, 30]);
+    expect_batch(&rt, &batch.take(&[])?, Some(7), &[]);
     batch.set_index(None);
-    expect_batch(&rt, alloc, &batch, None, &[10, 20, 30, 40])?;
-    assert!(rt; batch.into_rows() == rows);
+    expect_batch(&rt, &batch.take(&[1])?, None, &[20]);
+    Ok(())
+}
+
+#[test]
+fn batches_are_copied_and_moved(rt: HostRuntime) -> Result<(), Fail> {
+    let alloc = rt.alloc();
+    let batch = batch_of(alloc)?;
+    expect_batch(&rt, &batch.copy()?, Some(7), &[10, 20, 30]);
+    expect_batch(&rt, &batch.duplicate()?, Some(7), &[10, 20, 30]);
+    let third = row_of(alloc, Value::Int(30), Value::Lgl(false))?;
+    assert!(rt; batch.row(2)? == third);
+    assert!(rt; batch.into_rows() == rows_of(alloc)?);
     let kinds = Seq::of_slice(alloc, &[ColType::Int, ColType::Lgl])?;
-    let moved = Batch::of_rows(Some(0), kinds, rows);
-    expect_batch(&rt, alloc, &moved, Some(0), &[10, 20, 30, 40])?;
+    let moved = Batch::of_rows(Some(0), kinds, rows_of(alloc)?);
+    expect_batch(&rt, &moved, Some(0), &[10, 20, 30]);
     Ok(())
 }

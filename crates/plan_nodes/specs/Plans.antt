@@ -1,5 +1,5 @@
 -- Plans of nodes: what makes one well formed, and the machine's plan that it is.
-use Rattle.std.specs.Prelude.{◌≡◌, ℕ, zero, suc, ◌+◌, ◌-◌, ◌<◌, ◌≤◌, Bool, true, false, ◌||◌, nat_eq, cond, List, [], ◌∷◌, length, map, ◌⊎◌, IsTrue, Contains}
+use Rattle.std.specs.Prelude.{◌≡◌, ℕ, zero, suc, ◌-◌, ◌<◌, ◌≤◌, Bool, true, false, ◌&&◌, ◌||◌, not, nat_eq, cond, List, [], ◌∷◌, length, map, ◌⊎◌, IsTrue, Contains}
 use Rattle.std.specs.List.{filter}
 use Rattle.scalar_value.specs.declared.value.Value.{Value}
 use Rattle.scalar_value.specs.declared.value.ColType.{ColType}
@@ -22,6 +22,12 @@ pub record Pace : Type 0 where
   pub workers : ℕ
   pub pause : ℕ
   pub resume : ℕ
+
+-- A batch has a row and there is a worker; an edge goes on at no more batches than pause it.
+pub record IsPace (pace : Pace) : Type 0 where
+  pub batch : 1 ≤ pace.batch
+  pub workers : 1 ≤ pace.workers
+  pub resume : pace.resume ≤ pace.pause
 
 -- ---- marks
 
@@ -67,6 +73,11 @@ abbrev pub among : ℕ → List ℕ → Bool
 among e [] = false
 among e (x ∷ xs) = nat_eq x e || among e xs
 
+-- no number stands there twice
+abbrev pub are_apart : List ℕ → Bool
+are_apart [] = true
+are_apart (x ∷ xs) = not (among x xs) && are_apart xs
+
 -- The first node, counted on from k, that has e as an input; the one behind the last where none has.
 abbrev pub user_from : ℕ → List Node → ℕ → ℕ
 user_from k [] e = k
@@ -77,12 +88,14 @@ user_of nodes e = user_from 1 nodes e
 
 -- ---- well-formed plans
 
--- A node in its place: its inputs stand before it and have it as their user, and they are as many as its kind takes;
+-- A node in its place: its inputs stand before it and have it as their user, no two of them are one node, and they are
+-- as many as its kind takes;
 -- its columns and expressions have types over the inputs' columns, and its own columns are those that it gives then;
 -- its mark is that of its kind, or Unordered.
 pub record IsNodeOf (nodes : List Node) (n : ℕ) (v : Node) : Type 0 where
   pub count : length v.inputs ≡ input_count v.kind
   pub inputs : (e : ℕ) → Contains v.inputs e → (1 ≤ e) × (e < n) × (user_of nodes e ≡ n)
+  pub apart : IsTrue (are_apart v.inputs)
   pub fits : IsTrue ((kind_meaning v.kind (input_kinds nodes v) 1).fits (input_kinds nodes v))
   pub columns : is_source v.kind ≡ false → kinds_of v.schema ≡ (kind_meaning v.kind (input_kinds nodes v) 1).columns (input_kinds nodes v)
   pub mark : (is_source v.kind ≡ true) ⊎ ((v.mark ≡ Unordered) ⊎ (v.mark ≡ mark_by v.kind (input_marks nodes v)))

@@ -1,10 +1,10 @@
-ghost use Rattle.std.specs.Prelude.{◌≡◌, false};
+ghost use Rattle.std.specs.Prelude.{◌≡◌, IfOk, false};
 ghost use Rattle.plan_nodes.specs.Kinds.{is_source};
 ghost use Rattle.plan_nodes.specs.Plans.{mark_by};
 
 use na_expr::Expr;
 use row_table::{JoinKind, Mark, Schema};
-use scalar_value::{Seq, Text};
+use scalar_value::{Duplicate, Mem, Seq, Text};
 
 /// A plan: its nodes, inputs before their users and the sink last.
 #[derive(Debug, Drop)]
@@ -42,6 +42,66 @@ pub struct JoinSpec {
     pub left_keys: Seq<u32>,
     pub right_keys: Seq<u32>,
     pub na_match: bool,
+}
+
+impl JoinSpec {
+    /// An equal specification. The only error is want of memory.
+    pub fn copy(&self) -> Mem<JoinSpec>
+        ensures { IfOk result (λ j. j ≡ self.now) }
+    {
+        Ok(JoinSpec {
+            kind: self.kind,
+            left_keys: self.left_keys.copy()?,
+            right_keys: self.right_keys.copy()?,
+            na_match: self.na_match,
+        })
+    }
+}
+
+impl NodeKind {
+    /// An equal kind. The only error is want of memory.
+    pub fn copy(&self) -> Mem<NodeKind>
+        ensures { IfOk result (λ kind. kind ≡ self.now) }
+    {
+        match self {
+            NodeKind::Source(name) => Ok(NodeKind::Source(name.copy()?)),
+            NodeKind::Filter(condition) => Ok(NodeKind::Filter(condition.copy()?)),
+            NodeKind::Project(values) => Ok(NodeKind::Project(values.copy()?)),
+            NodeKind::HashJoin(spec) => Ok(NodeKind::HashJoin(spec.copy()?)),
+            NodeKind::Sink => Ok(NodeKind::Sink),
+        }
+    }
+}
+
+impl Node {
+    /// An equal node. The only error is want of memory.
+    pub fn copy(&self) -> Mem<Node>
+        ensures { IfOk result (λ v. v ≡ self.now) }
+    {
+        Ok(Node {
+            kind: self.kind.copy()?,
+            inputs: self.inputs.copy()?,
+            mark: self.mark,
+            schema: self.schema.copy()?,
+        })
+    }
+}
+
+impl Duplicate for Node {
+    fn duplicate(&self) -> Mem<Node> {
+        self.copy()
+    }
+}
+
+impl Plan {
+    /// An equal plan. The only error is want of memory.
+    pub fn copy(&self) -> Mem<Plan>
+        ensures { IfOk result (λ plan. plan ≡ self.now) }
+    {
+        Ok(Plan {
+            nodes: self.nodes.copy()?,
+        })
+    }
 }
 
 /// The mark of a node that is no source, by the marks of its inputs. As Acero's nodes do, a filter, a project and a sink

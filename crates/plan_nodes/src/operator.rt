@@ -30,8 +30,9 @@ pub trait Operator: Send + Sync + Drop {
     /// What the operator computes, on whole lists of rows.
     ghost meaning: { Self → OpMeaning };
 
-    /// The batches that a local part stands for, of an operator of this meaning over inputs with columns of these types.
-    ghost local_is: { OpMeaning → List (List ColType) → Self.Local → List (Item (List Value)) → Type 0 };
+    /// The batches, with columns of these types, that a local part stands for, of an operator of this meaning. What was
+    /// folded has the gathered input's columns, and what was streamed those of the streamed input.
+    ghost local_is: { OpMeaning → List ColType → Self.Local → List (Item (List Value)) → Type 0 };
 
     /// The gathered rows and the streamed batches that a shared part stands for.
     ghost shared_is: { OpMeaning → List (List ColType) → Self.Shared → List (List Value) → List (Item (List Value)) → Type 0 };
@@ -46,7 +47,7 @@ pub trait Operator: Send + Sync + Drop {
 
     /// A local part that stands for no batch.
     fn local(&self, alloc: Global) -> Mem<Self::Local>
-        ensures { (inputs : List (List ColType)) → IfOk result (λ made. local_is (meaning self.now) inputs made []) };
+        ensures { (kinds : List ColType) → IfOk result (λ made. local_is (meaning self.now) kinds made []) };
 
     /// A shared part that stands for no rows and no batches.
     fn begin(&self, alloc: Global) -> Mem<Self::Shared>
@@ -58,15 +59,15 @@ pub trait Operator: Send + Sync + Drop {
         requires stands {
             (inputs : List (List ColType)) × (taken : List (Item (List Value)))
             × IsTrue ((meaning self.now).fits inputs)
-            × local_is (meaning self.now) inputs local.old taken
+            × local_is (meaning self.now) (folded_of (meaning self.now) inputs) local.old taken
             × (batch.kinds ≡ folded_of (meaning self.now) inputs)
         }
         ensures {
             (inputs : List (List ColType)) (taken : List (Item (List Value)))
             → IsTrue ((meaning self.now).fits inputs)
-            → local_is (meaning self.now) inputs local.old taken
+            → local_is (meaning self.now) (folded_of (meaning self.now) inputs) local.old taken
             → batch.kinds ≡ folded_of (meaning self.now) inputs
-            → OnOk result (local_is (meaning self.now) inputs local.new (taken ++ item batch 0 ∷ []))
+            → OnOk result (local_is (meaning self.now) (folded_of (meaning self.now) inputs) local.new (taken ++ item batch 0 ∷ []))
         };
 
     /// What all local parts gathered, in the order of the batches' indexes, or as they stand where they have none.
@@ -75,12 +76,12 @@ pub trait Operator: Send + Sync + Drop {
         requires stands {
             (inputs : List (List ColType)) × (lists : List (List (Item (List Value))))
             × IsTrue ((meaning self.now).fits inputs)
-            × Each (local_is (meaning self.now) inputs) locals lists
+            × Each (local_is (meaning self.now) (folded_of (meaning self.now) inputs)) locals lists
         }
         ensures {
             (inputs : List (List ColType)) (lists : List (List (Item (List Value))))
             → IsTrue ((meaning self.now).fits inputs)
-            → Each (local_is (meaning self.now) inputs) locals lists
+            → Each (local_is (meaning self.now) (folded_of (meaning self.now) inputs)) locals lists
             → IfOk result (λ made. shared_is (meaning self.now) inputs made (gathered (flat lists)) [])
         };
 
@@ -100,17 +101,17 @@ pub trait Operator: Send + Sync + Drop {
             (inputs : List (List ColType)) × (built : List (List Value)) × (taken : List (Item (List Value)))
             × IsTrue ((meaning self.now).fits inputs)
             × shared_is (meaning self.now) inputs shared.now built []
-            × local_is (meaning self.now) inputs local.old taken
+            × local_is (meaning self.now) (first_of inputs) local.old taken
             × (batch.now.kinds ≡ first_of inputs)
         }
         ensures {
             (inputs : List (List ColType)) (built : List (List Value)) (taken : List (Item (List Value)))
             → IsTrue ((meaning self.now).fits inputs)
             → shared_is (meaning self.now) inputs shared.now built []
-            → local_is (meaning self.now) inputs local.old taken
+            → local_is (meaning self.now) (first_of inputs) local.old taken
             → batch.now.kinds ≡ first_of inputs
             → IfOk result (λ given.
-                local_is (meaning self.now) inputs local.new (taken ++ item batch.now from ∷ [])
+                local_is (meaning self.now) (first_of inputs) local.new (taken ++ item batch.now from ∷ [])
                 × (given.out.rows ≡ sent_rows (meaning self.now) built batch.now.rows from)
                 × (given.out.kinds ≡ (meaning self.now).columns inputs)
                 × (given.next ≡ next_from (meaning self.now) built batch.now.rows from))
@@ -130,13 +131,13 @@ pub trait Operator: Send + Sync + Drop {
             (inputs : List (List ColType)) × (built : List (List Value)) × (lists : List (List (Item (List Value))))
             × IsTrue ((meaning self.now).fits inputs)
             × shared_is (meaning self.now) inputs shared.now built []
-            × Each (local_is (meaning self.now) inputs) locals lists
+            × Each (local_is (meaning self.now) (first_of inputs)) locals lists
         }
         ensures {
             (inputs : List (List ColType)) (built : List (List Value)) (lists : List (List (Item (List Value))))
             → IsTrue ((meaning self.now).fits inputs)
             → shared_is (meaning self.now) inputs shared.now built []
-            → Each (local_is (meaning self.now) inputs) locals lists
+            → Each (local_is (meaning self.now) (first_of inputs)) locals lists
             → IfOk result (λ made. shared_is (meaning self.now) inputs made built (flat lists))
         };
 

@@ -36,7 +36,7 @@ peak_is columns may places waiting paused most most' q same h = subst (λ m. Que
 
 module _ {O S L : Type 0}
     (meaning : O → OpMeaning)
-    (local_is : OpMeaning → List (List ColType) → L → List (Batch (List Value)) → Type 0)
+    (local_is : OpMeaning → List ColType → L → List (Batch (List Value)) → Type 0)
     (shared_is : OpMeaning → List (List ColType) → S → List (List Value) → List (Batch (List Value)) → Type 0)
     (g : Given)
   where

@@ -15,7 +15,7 @@ use Rattle.task_core.specs.Told.{Told, plan_of, state_of, site_of, with_entry}
 
 module _ {O S L : Type 0}
     (meaning : O → OpMeaning)
-    (local_is : OpMeaning → List (List ColType) → L → List (Batch (List Value)) → Type 0)
+    (local_is : OpMeaning → List ColType → L → List (Batch (List Value)) → Type 0)
     (shared_is : OpMeaning → List (List ColType) → S → List (List Value) → List (Batch (List Value)) → Type 0)
   where
     -- The work is that of the worker's task in flight, which stands at this node; the task knows whether the order of the

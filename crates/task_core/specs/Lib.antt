@@ -4,3 +4,4 @@ pub mod Queues
 pub mod Calls
 pub mod Known
 pub mod Delivering
+pub mod Opening

@@ -15,7 +15,7 @@ use Rattle.plan_machine.specs.Phases.{first_phase_of}
 use Rattle.plan_machine.specs.State.{State, Task, tasks_at, opening}
 use Rattle.plan_machine.specs.History.{IsHistory, state_after, peak}
 use Rattle.plan_machine.specs.WellFormed.{Lawful, WellFormed}
-use Rattle.plan_nodes.specs.Operators.{OpMeaning, item}
+use Rattle.plan_nodes.specs.Operators.{OpMeaning, item, first_of, folded_of}
 use Rattle.plan_nodes.specs.Plans.{IsPlan}
 use Rattle.task_work.specs.Sites.{Site}
 use Rattle.task_work.specs.declared.work.Waiting.{Waiting}
@@ -109,7 +109,7 @@ Away tasks n w = ((t : Task (List Value)) × (tasks w ≡ Some t) × (t.node ≡
 
 module _ {O S L : Type 0}
     (meaning : O → OpMeaning)
-    (local_is : OpMeaning → List (List ColType) → L → List (Batch (List Value)) → Type 0)
+    (local_is : OpMeaning → List ColType → L → List (Batch (List Value)) → Type 0)
     (shared_is : OpMeaning → List (List ColType) → S → List (List Value) → List (Batch (List Value)) → Type 0)
   where
     -- A share that stands at a node: a source's table; else the operator, what was gathered and streamed, and while the
@@ -118,9 +118,9 @@ module _ {O S L : Type 0}
     PartStands v last Emitting taken built streamed (share.Table t) = work.IsTable meaning local_is shared_is v t
     PartStands v last Emitting taken built streamed (share.Part p) = ⊥
     PartStands v last Folding taken built streamed (share.Table t) = ⊥
-    PartStands v last Folding taken built streamed (share.Part p) = work.IsPart meaning local_is shared_is v taken built [] p
+    PartStands v last Folding taken built streamed (share.Part p) = work.IsPart meaning local_is shared_is v (folded_of v.meaning v.inputs) taken built [] p
     PartStands v last Streaming taken built streamed (share.Table t) = ⊥
-    PartStands v last Streaming taken built streamed (share.Part p) = work.IsPart meaning local_is shared_is v taken built [] p
+    PartStands v last Streaming taken built streamed (share.Part p) = work.IsPart meaning local_is shared_is v (first_of v.inputs) taken built [] p
     PartStands v last Tailing taken built streamed (share.Table t) = ⊥
     PartStands v last Tailing taken built streamed (share.Part p) = work.IsShared meaning local_is shared_is v built streamed p
     PartStands v last Sealed taken built streamed (share.Table t) = ⊥

@@ -3,9 +3,11 @@
 
 mod putting;
 mod queue;
+mod result;
 mod setting;
 mod stage;
 mod state;
 
+pub use result::Finished;
 pub use setting::{Ending, Setting};
 pub use state::PlanState;

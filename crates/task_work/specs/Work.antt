@@ -25,7 +25,7 @@ use Rattle.task_work.specs.declared.work.Waiting.{Waiting}
 module _ {O S L : Type 0}
   -- what an operator computes, and what a local and a shared part stand for
   (meaning : O → OpMeaning)
-  (local_is : OpMeaning → List (List ColType) → L → List (Batch (List Value)) → Type 0)
+  (local_is : OpMeaning → List ColType → L → List (Batch (List Value)) → Type 0)
   (shared_is : OpMeaning → List (List ColType) → S → List (List Value) → List (Batch (List Value)) → Type 0)
   (v : Site)
   where
@@ -43,20 +43,20 @@ module _ {O S L : Type 0}
     pub columns : v.columns ≡ v.meaning.columns v.inputs
     pub shared : shared_is v.meaning v.inputs (arc_value p.shared) built streamed
 
-  -- these, with a local part that stands for the batches that the worker took
-  pub record IsPart (taken : List (Batch (List Value))) (built : List (List Value)) (streamed : List (Batch (List Value))) (p : Part O S L) : Type 0 where
+  -- these, with a local part that stands for the batches, of columns of these types, that the worker took
+  pub record IsPart (kinds : List ColType) (taken : List (Batch (List Value))) (built : List (List Value)) (streamed : List (Batch (List Value))) (p : Part O S L) : Type 0 where
     pub is_shared : IsShared built streamed p
-    pub local : local_is v.meaning v.inputs p.local taken
+    pub local : local_is v.meaning kinds p.local taken
 
-  abbrev pub IsPartOf : List (List Value) → List (Batch (List Value)) → Option (Share O S L) → List (Batch (List Value)) → Type 0
-  IsPartOf built streamed None taken = ⊥
-  IsPartOf built streamed (Some (share.Table t)) taken = ⊥
-  IsPartOf built streamed (Some (share.Part p)) taken = IsPart taken built streamed p
+  abbrev pub IsPartOf : List ColType → List (List Value) → List (Batch (List Value)) → Option (Share O S L) → List (Batch (List Value)) → Type 0
+  IsPartOf kinds built streamed None taken = ⊥
+  IsPartOf kinds built streamed (Some (share.Table t)) taken = ⊥
+  IsPartOf kinds built streamed (Some (share.Part p)) taken = IsPart kinds taken built streamed p
 
   -- the parts of all workers, whose batches one worker after another are these
-  pub record IsRow (taken : List (Batch (List Value))) (built : List (List Value)) (streamed : List (Batch (List Value))) (row : List (Option (Share O S L))) : Type 0 where
+  pub record IsRow (kinds : List ColType) (taken : List (Batch (List Value))) (built : List (List Value)) (streamed : List (Batch (List Value))) (row : List (Option (Share O S L))) : Type 0 where
     pub lists : List (List (Batch (List Value)))
-    pub parts : Each (IsPartOf built streamed) row lists
+    pub parts : Each (IsPartOf kinds built streamed) row lists
     pub all : flat lists ≡ taken
     pub workers : length row ≡ v.workers
 
@@ -79,10 +79,10 @@ module _ {O S L : Type 0}
 
   abbrev pub IsWork : Task (List Value) → Work O S L → Type 0
   IsWork t (work.Emit table number) = (t.job ≡ job.Emit) × IsTable table × (number ≡ t.number) × (number < parts v.batch v.table)
-  IsWork t (work.Fold part batch) = (t.job ≡ job.Fold) × IsPart t.took t.built [] part × IsFolded t batch
-  IsWork t (work.Seal row) = (t.job ≡ job.Seal) × IsRow t.took t.built [] row.items × (v.meaning.shape.folds ≡ true)
-  IsWork t (work.Stream part batch from) = (t.job ≡ job.Stream) × IsPart t.took t.built [] part × IsStreamed t batch from
-  IsWork t (work.Close row) = (t.job ≡ job.Close) × IsRow t.took t.built [] row.items × (v.meaning.shape.streams ≡ true) × (v.meaning.shape.tails ≡ true)
+  IsWork t (work.Fold part batch) = (t.job ≡ job.Fold) × IsPart (folded_of v.meaning v.inputs) t.took t.built [] part × IsFolded t batch
+  IsWork t (work.Seal row) = (t.job ≡ job.Seal) × IsRow (folded_of v.meaning v.inputs) t.took t.built [] row.items × (v.meaning.shape.folds ≡ true)
+  IsWork t (work.Stream part batch from) = (t.job ≡ job.Stream) × IsPart (first_of v.inputs) t.took t.built [] part × IsStreamed t batch from
+  IsWork t (work.Close row) = (t.job ≡ job.Close) × IsRow (first_of v.inputs) t.took t.built [] row.items × (v.meaning.shape.streams ≡ true) × (v.meaning.shape.tails ≡ true)
   IsWork t (work.Tail part number) = (t.job ≡ job.Tail) × IsShared t.built t.streamed part × (number ≡ t.number) × Ends × (number < end_count v.meaning t.built t.streamed)
 
   -- ---- what it brings back
@@ -105,12 +105,12 @@ module _ {O S L : Type 0}
 
   abbrev pub IsFruit : Task (List Value) → Fruit O S L → Type 0
   IsFruit t (fruit.Emit table out) = (t.job ≡ job.Emit) × IsTable table × IsOut (Some t.number) (piece v.kept v.batch v.table t.number).rows out
-  IsFruit t (fruit.Fold part) = (t.job ≡ job.Fold) × IsPart (t.took ++ t.batch ∷ []) t.built [] part
-  IsFruit t (fruit.Seal row count) = (t.job ≡ job.Seal) × IsRow [] (gathered t.took) [] row.items × IsCount v.meaning.shape.streams (gathered t.took) [] count
+  IsFruit t (fruit.Fold part) = (t.job ≡ job.Fold) × IsPart (folded_of v.meaning v.inputs) (t.took ++ t.batch ∷ []) t.built [] part
+  IsFruit t (fruit.Seal row count) = (t.job ≡ job.Seal) × IsRow (first_of v.inputs) [] (gathered t.took) [] row.items × IsCount v.meaning.shape.streams (gathered t.took) [] count
   IsFruit t (fruit.Stream part out rest) =
       (t.job ≡ job.Stream)
-      × IsPart (t.took ++ t.batch ∷ []) t.built [] part
+      × IsPart (first_of v.inputs) (t.took ++ t.batch ∷ []) t.built [] part
       × IsOut t.batch.index (sent_rows v.meaning t.built t.batch.rows t.batch.from) out
       × IsRest t (next_from v.meaning t.built t.batch.rows t.batch.from) rest
-  IsFruit t (fruit.Close row count) = (t.job ≡ job.Close) × IsRow [] t.built t.took row.items × (count ≡ end_count v.meaning t.built t.took)
+  IsFruit t (fruit.Close row count) = (t.job ≡ job.Close) × IsRow (first_of v.inputs) [] t.built t.took row.items × (count ≡ end_count v.meaning t.built t.took)
   IsFruit t (fruit.Tail part out) = (t.job ≡ job.Tail) × IsShared t.built t.streamed part × IsOut (Some t.number) (end_part v.meaning t.built t.streamed t.number) out

@@ -1,0 +1,2 @@
+//! Tests of nodes, and of the operators' trait through two small operators.
+mod gather;
