@@ -8,3 +8,6 @@ pub mod Seated
 pub mod Resuming
 pub mod Finishing
 pub mod Leaving
+pub mod Landing
+pub mod Rows
+pub mod Delivering

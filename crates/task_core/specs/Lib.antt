@@ -5,4 +5,5 @@ pub mod Stages
 pub mod Choosing
 pub mod Calls
 pub mod Known
+pub mod Delivering
 pub mod Opening
