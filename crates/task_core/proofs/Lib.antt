@@ -11,3 +11,4 @@ pub mod Leaving
 pub mod Landing
 pub mod Rows
 pub mod Delivering
+pub mod At

@@ -7,3 +7,4 @@ pub mod Calls
 pub mod Known
 pub mod Delivering
 pub mod Opening
+pub mod Openings
