@@ -12,3 +12,4 @@ pub mod Landing
 pub mod Rows
 pub mod Delivering
 pub mod At
+pub mod Tables

@@ -1,5 +1,5 @@
 -- What is stored of each node as a run begins.
-use Rattle.std.specs.Prelude.{ℕ, ◌-◌, Bool, cond, List, []}
+use Rattle.std.specs.Prelude.{ℕ, Bool, true, false, cond, List, [], ◌∷◌}
 use Rattle.scalar_value.specs.declared.value.Value.{Value}
 use Rattle.plan_machine.specs.declared.entry.Phase.{Phase}
 use Rattle.plan_machine.specs.Phases.{first_phase_of}
@@ -30,3 +30,9 @@ stage_of v batch rows =
       count = cond (is_source v.kind) (parts batch rows) 0;
       busy = 0;
     }
+
+-- the rows of a node's table: of a source those of the next table, of any other node none
+abbrev pub next_table : Bool → List (List (List Value)) → List (List Value)
+next_table true [] = []
+next_table true (t ∷ ts) = t
+next_table false ts = []

@@ -9,6 +9,7 @@ mod queue;
 mod result;
 mod setting;
 mod stage;
+mod stages;
 mod state;
 mod upkeep;
 
