@@ -12,3 +12,5 @@ pub mod Placed
 pub mod Example
 pub mod Gathered
 pub mod Parts
+pub mod JoinFits
+pub mod JoinParts

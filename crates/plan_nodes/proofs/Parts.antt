@@ -50,14 +50,14 @@ pub keeps-gathered : (kinds : List ColType) (part : List BatchValue) (taken : Li
 unfolding gathered
 keeps-gathered kinds part taken keeps = ap (λ xs. rows_of (sort_batches xs)) (sym keeps.0) ∙ ap rows_of (sort-front taken) ∙ rows-front (sort_batches taken)
 
-both-true : (a b : Bool) → a ≡ true → b ≡ true → (a && b) ≡ true
+pub both-true : (a b : Bool) → a ≡ true → b ≡ true → (a && b) ≡ true
 both-true a b p q = rw p q
 
-left-true : (a b : Bool) → (a && b) ≡ true → a ≡ true
+pub left-true : (a b : Bool) → (a && b) ≡ true → a ≡ true
 left-true true b h = refl
 left-true false b h = h
 
-right-true : (a b : Bool) → (a && b) ≡ true → b ≡ true
+pub right-true : (a b : Bool) → (a && b) ≡ true → b ≡ true
 right-true true b h = h
 right-true false b h = absurd (cc)
 
