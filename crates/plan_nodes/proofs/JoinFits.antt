@@ -43,8 +43,8 @@ fit-joined ls rs built (x ∷ rows) p q =
     let here = filter (rows_match (matching by_first) x) built in
     fit_kinds-append (ls ++ rs) (joined_row Full rs x here) (joined_rows by_first rs built rows)
     ∙ both-true (fit_kinds (ls ++ rs) (joined_row Full rs x here)) (fit_kinds (ls ++ rs) (joined_rows by_first rs built rows))
-      (fits-row ls rs x here (left-true (fits_kinds ls x) (fit_kinds ls rows) p) (fit_kinds-filter rs (rows_match (matching by_first) x) built q))
-      (fit-joined ls rs built rows (right-true (fits_kinds ls x) (fit_kinds ls rows) p) q)
+    (fits-row ls rs x here (left-true (fits_kinds ls x) (fit_kinds ls rows) p) (fit_kinds-filter rs (rows_match (matching by_first) x) built q))
+    (fit-joined ls rs built rows (right-true (fits_kinds ls x) (fit_kinds ls rows) p) q)
 
 pub fit-unmatched : (ls rs : List ColType) (built streamed : List (List Value)) → IsTrue (fit_kinds rs built) → IsTrue (fit_kinds (ls ++ rs) (unmatched_rows by_first ls built streamed))
 fit-unmatched ls rs built streamed q =

@@ -46,9 +46,12 @@ module _ (left right : List ColType) (size : ℕ) (inputs : List (List ColType))
       let keeps = keeps-flat (second_of inputs) locals lists each in
       let same : rows ≡ gathered (flat lists) = made ∙ keeps-gathered (second_of inputs) (flat locals) (flat lists) keeps in
       let fit : IsTrue (fit_kinds (second_of inputs) (gathered (flat lists))) =
-      ap (fit_kinds (second_of inputs)) (sym same ∙ made) ∙ keeps-fit (second_of inputs) (flat locals) keeps.1 in
-      (same, last ∙ ap (λ xs. unmatched_rows by_first left xs []) same, fit,
-      ap (fit_kinds (left ++ right)) (last ∙ ap (λ xs. unmatched_rows by_first left xs []) same) ∙ fit-ends (gathered (flat lists)) [] fit)
+      ap (fit_kinds (second_of inputs)) (sym same ∙ made) ∙ keeps-fit (second_of inputs) (flat locals) keeps.1 in (
+        same,
+        last ∙ ap (λ xs. unmatched_rows by_first left xs []) same,
+        fit,
+        ap (fit_kinds (left ++ right)) (last ∙ ap (λ xs. unmatched_rows by_first left xs []) same) ∙ fit-ends (gathered (flat lists)) [] fit,
+      )
 
   pub closed-holds : (locals : List (List BatchValue)) (lists : List (List (Batch (List Value)))) (built before last rows streamed ends : List (List Value))
       → rows ≡ before → streamed ≡ rows_of (bare (flat locals)) → ends ≡ unmatched_rows by_first left rows streamed

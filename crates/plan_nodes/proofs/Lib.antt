@@ -7,7 +7,6 @@ pub mod Sinks
 pub mod Sources
 pub mod EachKind
 pub mod Inputs
-
 pub mod Placed
 pub mod Example
 pub mod Gathered

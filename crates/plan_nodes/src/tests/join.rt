@@ -17,6 +17,8 @@ use plan_machine::{OpShape, part_count};
 use row_table::{JoinKind, Row};
 use scalar_value::{ColType, Mem, Seq, Value};
 use std::alloc::Global;
+use std::process::Abort;
+use std::test::Fail;
 use std::thread::Threads;
 
 /// The join, for inputs with columns of these types.
@@ -89,7 +91,13 @@ fn matched_rows(alloc: Global, x: &Row, built: &[Row]) -> Mem<Seq<Row>>
     Ok(rows)
 }
 
-fn push_joined(alloc: Global, made: &mut Seq<Row>, right: &[ColType], x: &Row, matched: &[Row]) -> Mem<()>
+fn push_joined(
+    alloc: Global,
+    made: &mut Seq<Row>,
+    right: &[ColType],
+    x: &Row,
+    matched: &[Row],
+) -> Mem<()>
     ensures { OnOk result (made.new ≡ made.old ++ row_joined JoinKind.Full right.now x.now matched.now) }
 {
     if matched.is_empty() {
@@ -153,12 +161,10 @@ impl FirstJoin {
 
     fn part(&self, alloc: Global, rows: &[Row], from: u64) -> Mem<Streamed>
         requires { IsTrue (fit_kinds (self.now.left ++ self.now.right) rows.now) }
-        ensures {
-            IfOk result (λ given.
-                (given.out.rows ≡ take self.now.size (drop from rows.now))
-                × (given.out.kinds ≡ self.now.left ++ self.now.right)
-                × (given.next ≡ cond (nat_lt self.now.size (length (drop from rows.now))) (Some (from + self.now.size)) None))
-        }
+        ensures { IfOk result (λ given.
+            (given.out.rows ≡ take self.now.size (drop from rows.now))
+            × (given.out.kinds ≡ self.now.left ++ self.now.right)
+            × (given.next ≡ cond (nat_lt self.now.size (length (drop from rows.now))) (Some (from + self.now.size)) None)) }
     {
         let rest = (rows.len() as u64).saturating_sub(from);
         let size = u64::from(self.size);
@@ -209,17 +215,13 @@ impl Operator for FirstJoin {
     }
 
     fn seal<R: Threads + Sync>(&self, _rt: &R, alloc: Global, locals: Seq<Seq<Batch>>) -> Mem<Built>
-        requires {
-            (inputs : List (List ColType)) × (lists : List (List (Item (List Value))))
+        requires { (inputs : List (List ColType)) × (lists : List (List (Item (List Value))))
             × IsTrue ((first_join self.now.left self.now.right self.now.size).fits inputs)
-            × Each (Keeps (second_of inputs)) locals lists
-        }
-        ensures {
-            (inputs : List (List ColType)) (lists : List (List (Item (List Value))))
+            × Each (Keeps (second_of inputs)) locals lists }
+        ensures { (inputs : List (List ColType)) (lists : List (List (Item (List Value))))
             → IsTrue ((first_join self.now.left self.now.right self.now.size).fits inputs)
             → Each (Keeps (second_of inputs)) locals lists
-            → IfOk result (λ made. Holds (first_join self.now.left self.now.right self.now.size) inputs made.rows made.ends (gathered (flat lists)) [])
-        }
+            → IfOk result (λ made. Holds (first_join self.now.left self.now.right self.now.size) inputs made.rows made.ends (gathered (flat lists)) []) }
     {
         let rows = gathered_rows(alloc, locals)?;
         let ends = unmatched_rows(alloc, self.left.as_slice(), rows.as_slice(), &[])?;
@@ -235,7 +237,12 @@ impl Operator for FirstJoin {
         from: u64,
     ) -> Mem<Streamed> {
         local.push(batch.copy()?)?;
-        let rows = joined_rows(alloc, self.right.as_slice(), shared.rows.as_slice(), batch.rows())?;
+        let rows = joined_rows(
+            alloc,
+            self.right.as_slice(),
+            shared.rows.as_slice(),
+            batch.rows(),
+        )?;
         self.part(alloc, rows.as_slice(), from)
     }
 
@@ -246,24 +253,25 @@ impl Operator for FirstJoin {
         shared: &Built,
         locals: Seq<Seq<Batch>>,
     ) -> Mem<Built>
-        requires {
-            (inputs : List (List ColType)) × (built : List (List Value)) × (lists : List (List (Item (List Value))))
+        requires { (inputs : List (List ColType)) × (built : List (List Value)) × (lists : List (List (Item (List Value))))
             × IsTrue ((first_join self.now.left self.now.right self.now.size).fits inputs)
             × Holds (first_join self.now.left self.now.right self.now.size) inputs shared.now.rows shared.now.ends built []
-            × Each (Keeps (first_of inputs)) locals lists
-        }
-        ensures {
-            (inputs : List (List ColType)) (built : List (List Value)) (lists : List (List (Item (List Value))))
+            × Each (Keeps (first_of inputs)) locals lists }
+        ensures { (inputs : List (List ColType)) (built : List (List Value)) (lists : List (List (Item (List Value))))
             → IsTrue ((first_join self.now.left self.now.right self.now.size).fits inputs)
             → Holds (first_join self.now.left self.now.right self.now.size) inputs shared.now.rows shared.now.ends built []
             → Each (Keeps (first_of inputs)) locals lists
-            → IfOk result (λ made. Holds (first_join self.now.left self.now.right self.now.size) inputs made.rows made.ends built (flat lists))
-        }
+            → IfOk result (λ made. Holds (first_join self.now.left self.now.right self.now.size) inputs made.rows made.ends built (flat lists)) }
     {
         let all = flat_batches(alloc, locals)?;
         let streamed = all_rows(alloc, all)?;
         let rows = shared.rows.copy()?;
-        let ends = unmatched_rows(alloc, self.left.as_slice(), rows.as_slice(), streamed.as_slice())?;
+        let ends = unmatched_rows(
+            alloc,
+            self.left.as_slice(),
+            rows.as_slice(),
+            streamed.as_slice(),
+        )?;
         Ok(Built { rows, ends })
     }
 
@@ -275,4 +283,57 @@ impl Operator for FirstJoin {
         let rows = rows_of_part(alloc, shared.ends.as_slice(), k, self.size)?;
         Ok(Batch::of_rows(None, self.columns()?, rows))
     }
+}
+
+fn rows_of_ints(alloc: Global, keys: &[Option<i64>]) -> Mem<Seq<Row>> {
+    let mut rows = Seq::new(alloc);
+    for (k, key) in keys.iter().enumerate() {
+        let mut row = Seq::new(alloc);
+        match key {
+            Some(number) => row.push(Value::Int(*number))?,
+            None => row.push(Value::Missing)?,
+        }
+        row.push(Value::Lgl(k == 0))?;
+        rows.push(row)?;
+    }
+    Ok(rows)
+}
+
+/// Whether the rows have these whole numbers, or missing values, in two columns.
+fn expect_keys<R: Abort>(
+    rt: &R,
+    rows: &Seq<Row>,
+    columns: (usize, usize),
+    wanted: &[(Option<i64>, Option<i64>)],
+) {
+    assert_eq!(rt; rows.len(), wanted.len());
+    for (row, (left, right)) in rows.as_slice().iter().zip(wanted) {
+        assert_eq!(rt; row.len(), 4);
+        for (column, key) in [(columns.0, *left), (columns.1, *right)] {
+            match (row.get(column), key) {
+                (Some(value), Some(number)) => assert!(rt; *value == Value::Int(number)),
+                (Some(value), None) => assert!(rt; *value == Value::Missing),
+                (None, _) => assert!(rt; false, "no column"),
+            }
+        }
+    }
+}
+
+#[test]
+fn rows_are_joined_by_their_first_column(rt: HostRuntime) -> Result<(), Fail> {
+    let alloc = rt.alloc();
+    let kinds = [ColType::Int, ColType::Lgl];
+    let built = rows_of_ints(alloc, &[Some(2), None, Some(3), Some(2)])?;
+    let streamed = rows_of_ints(alloc, &[Some(1), Some(2), None])?;
+    let made = joined_rows(alloc, &kinds, built.as_slice(), streamed.as_slice())?;
+    let wanted = [
+        (Some(1), None),
+        (Some(2), Some(2)),
+        (Some(2), Some(2)),
+        (None, None),
+    ];
+    expect_keys(&rt, &made, (0, 2), &wanted);
+    let ends = unmatched_rows(alloc, &kinds, built.as_slice(), streamed.as_slice())?;
+    expect_keys(&rt, &ends, (0, 2), &[(None, None), (None, Some(3))]);
+    Ok(())
 }

@@ -4,7 +4,6 @@ use na_expr::Expr;
 use row_table::{Field, JoinKind, Mark};
 use scalar_value::{ColType, Mem, Seq, Text};
 use std::alloc::Global;
-
 use std::test::Fail;
 
 fn full_join(alloc: Global) -> Mem<JoinSpec> {
@@ -61,9 +60,24 @@ fn plan_of(alloc: Global) -> Mem<Plan> {
     let mut plan = Plan {
         nodes: Seq::new(alloc),
     };
-    push_node(&mut plan, alloc, NodeKind::Source(Text::of(alloc, "x")?), &[])?;
-    push_node(&mut plan, alloc, NodeKind::Source(Text::of(alloc, "y")?), &[])?;
-    push_node(&mut plan, alloc, NodeKind::HashJoin(full_join(alloc)?), &[1, 2])?;
+    push_node(
+        &mut plan,
+        alloc,
+        NodeKind::Source(Text::of(alloc, "x")?),
+        &[],
+    )?;
+    push_node(
+        &mut plan,
+        alloc,
+        NodeKind::Source(Text::of(alloc, "y")?),
+        &[],
+    )?;
+    push_node(
+        &mut plan,
+        alloc,
+        NodeKind::HashJoin(full_join(alloc)?),
+        &[1, 2],
+    )?;
     push_node(&mut plan, alloc, NodeKind::Filter(Expr::Col(0)), &[3])?;
     push_node(&mut plan, alloc, NodeKind::Project(values), &[4])?;
     push_node(&mut plan, alloc, NodeKind::Sink, &[5])?;
