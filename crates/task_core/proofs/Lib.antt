@@ -6,3 +6,4 @@ pub mod Seated
 pub mod Resuming
 pub mod Finishing
 pub mod Leaving
+pub mod Outcomes

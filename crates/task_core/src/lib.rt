@@ -2,7 +2,9 @@
 #![tactic(auto)]
 
 mod failing;
+mod outcome;
 mod queue;
+mod room;
 mod setting;
 mod stage;
 mod state;
