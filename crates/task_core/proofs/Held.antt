@@ -1,5 +1,5 @@
 -- Lists whose places stand for numbers from 1 on, where one place is written.
-use Rattle.std.proofs.Common.{◌≡◌, ◌≢◌, ℕ, suc, ◌<◌, List, [], ◌∷◌, length, refl, sym, ap, subst, ◌∙◌, ◌⊎◌, inl, inr, arith}
+use Rattle.std.proofs.Common.{◌≡◌, ◌≢◌, ℕ, suc, ◌-◌, ◌<◌, ◌≤◌, List, [], ◌∷◌, length, refl, sym, ap, subst, ◌∙◌, ◌⊎◌, inl, inr, arith}
 use Rattle.std.specs.Prelude.{slice_index_or, slice_set}
 use Rattle.plan_machine.proofs.Weigh.{same_or}
 use Rattle.std.proofs.lemmas.List.{get_or-set_same, get_or-set_other, length-set}
@@ -32,3 +32,10 @@ module _ {B : Type 0} where
       by : (suc k ≡ n) ⊎ (suc k ≢ n) → R' (suc k) (slice_index_or xs k d)
       by (inl e) = subst (λ j. R' j (slice_index_or xs k d)) (sym e) (here (slice_index_or xs k d) (subst (λ j. R j (slice_index_or xs k d)) e (h k d lt)))
       by (inr ne) = others (suc k) (slice_index_or xs k d) ne (h k d lt)
+
+-- what stands at the place of a number, counted from 1
+pub held_at : {B : Type 0} (R : ℕ → B → Type 0) (xs : List B) (n : ℕ) (y : B) → Held R xs → 1 ≤ n → n ≤ length xs → y ≡ slice_index_or xs (n - 1) y → R n y
+held_at R xs n y h low up is =
+    let at : suc (n - 1) ≡ n = omega arith in
+    let lt : n - 1 < length xs = omega arith in
+    subst (λ k. R k y) at (subst (λ v. R (suc (n - 1)) v) (sym is) (h (n - 1) y lt))

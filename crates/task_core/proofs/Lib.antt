@@ -2,6 +2,8 @@ pub mod Held
 pub mod Growing
 pub mod Pausing
 pub mod Known
+pub mod Choosing
+pub mod Choices
 pub mod Seated
 pub mod Resuming
 pub mod Finishing

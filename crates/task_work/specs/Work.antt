@@ -1,5 +1,5 @@
 -- What a task in flight holds, and what its worker gives back: in the terms of the plan machine.
-use Rattle.std.specs.Prelude.{◌≡◌, ℕ, ◌<◌, Bool, true, false, cond, IsTrue, List, [], ◌∷◌, ◌++◌, length, Option, Some, None, ◌⊎◌}
+use Rattle.std.specs.Prelude.{◌≡◌, ℕ, ◌<◌, ◌≤◌, Bool, true, false, cond, IsTrue, List, [], ◌∷◌, ◌++◌, length, Option, Some, None, ◌⊎◌}
 use Rattle.std.specs.declared.alloc.Global.{Global}
 use Rattle.std.specs.declared.sync.Arc.{Arc}
 use Rattle.std.specs.Arc.{arc_value}
@@ -80,9 +80,9 @@ module _ {O S L : Type 0}
   abbrev pub IsWork : Task (List Value) → Work O S L → Type 0
   IsWork t (work.Emit table number) = (t.job ≡ job.Emit) × IsTable table × (number ≡ t.number) × (number < parts v.batch v.table)
   IsWork t (work.Fold part batch) = (t.job ≡ job.Fold) × IsPart (folded_of v.meaning v.inputs) t.took t.built [] part × IsFolded t batch
-  IsWork t (work.Seal row) = (t.job ≡ job.Seal) × IsRow (folded_of v.meaning v.inputs) t.took t.built [] row.items × (v.meaning.shape.folds ≡ true)
+  IsWork t (work.Seal row) = (t.job ≡ job.Seal) × IsRow (folded_of v.meaning v.inputs) t.took t.built [] row.items × (1 ≤ v.workers) × (v.meaning.shape.folds ≡ true)
   IsWork t (work.Stream part batch from) = (t.job ≡ job.Stream) × IsPart (first_of v.inputs) t.took t.built [] part × IsStreamed t batch from
-  IsWork t (work.Close row) = (t.job ≡ job.Close) × IsRow (first_of v.inputs) t.took t.built [] row.items × (v.meaning.shape.streams ≡ true) × (v.meaning.shape.tails ≡ true)
+  IsWork t (work.Close row) = (t.job ≡ job.Close) × IsRow (first_of v.inputs) t.took t.built [] row.items × (1 ≤ v.workers) × (v.meaning.shape.streams ≡ true) × (v.meaning.shape.tails ≡ true)
   IsWork t (work.Tail part number) = (t.job ≡ job.Tail) × IsShared t.built t.streamed part × (number ≡ t.number) × Ends × (number < end_count v.meaning t.built t.streamed)
 
   -- ---- what it brings back

@@ -1,6 +1,9 @@
 //! The work of a task, which a worker does outside of the plan's state.
 #![tactic(auto)]
 
+mod batches;
+mod row;
+mod source;
 mod task;
 mod work;
 

@@ -1,0 +1,54 @@
+-- What a run is begun with, and what it answers.
+use Rattle.std.specs.Prelude.{◌≡◌, ℕ, zero, suc, ◌-◌, ◌<◌, ◌≤◌, Bool, true, false, cond, not, List, [], ◌∷◌, ◌++◌}
+use Rattle.std.specs.declared.alloc.Global.{Global}
+use Rattle.std.specs.declared.sync.Arc.{Arc}
+use Rattle.std.specs.Arc.{arc_value}
+use Rattle.row_table.specs.Tables.{TableValue}
+use Rattle.scalar_value.specs.declared.value.Value.{Value}
+use Rattle.plan_machine.specs.declared.entry.Entry.{Entry}
+use Rattle.plan_machine.specs.Plan.{Plan as MachinePlan}
+use Rattle.plan_machine.specs.State.{opening}
+use Rattle.plan_machine.specs.History.{IsHistory, IsEnded, state_after, peak, result_rows}
+use Rattle.plan_machine.specs.Meaning.{SameRows, meaning}
+use Rattle.plan_nodes.specs.declared.node.Node.{Node}
+use Rattle.plan_nodes.specs.Kinds.{is_source}
+use Rattle.plan_nodes.specs.Plans.{IsPlan, IsSourceTable, node_at, meaning_at}
+use Rattle.plan_nodes.specs.Operators.{OpMeaning, Each}
+use Rattle.task_core.specs.declared.setting.Setting.{Setting}
+use Rattle.task_core.specs.declared.result.Finished.{Finished}
+use Rattle.task_core.specs.Told.{Given, plan_of}
+
+-- the numbers of the nodes that are sources, and of those that aren't, counted on from k
+abbrev pub numbers_of : Bool → ℕ → List Node → List ℕ
+numbers_of sources k [] = []
+numbers_of sources k (v ∷ vs) = cond (cond sources (is_source v.kind) (not (is_source v.kind))) (k ∷ numbers_of sources (suc k) vs) (numbers_of sources (suc k) vs)
+
+-- One operator for each node that isn't a source, in the order of the plan: it computes what the node does over its inputs'
+-- columns, with batches of the run's size.
+abbrev pub AreOperators : {O : Type 0} → (O → OpMeaning) → List Node → ℕ → List (Arc O Global) → Type 0
+AreOperators meaning nodes batch ops = Each (λ op n. meaning (arc_value op) ≡ meaning_at nodes batch n) ops (numbers_of false 1 nodes)
+
+-- One table for each source, in the order of the plan, with the source's columns and mark.
+abbrev pub AreTables : List Node → List (Arc TableValue Global) → Type 0
+AreTables nodes tables = Each (λ t n. IsSourceTable (node_at nodes n) (arc_value t)) tables (numbers_of true 1 nodes)
+
+-- a setting within its limits
+pub record IsSetting (s : Setting) : Type 0 where
+  pub batch : (1 ≤ s.batch) × (s.batch ≤ 65536)
+  pub workers : (1 ≤ s.workers) × (s.workers ≤ 64)
+  pub pause : (1 ≤ s.pause) × (s.pause ≤ 1024)
+  pub resume : s.resume < s.pause
+
+-- the greatest number of batches that waited on each edge, in the order of the nodes
+abbrev pub peaks_upto : MachinePlan (List Value) → List Entry → ℕ → List ℕ
+peaks_upto P es zero = []
+peaks_upto P es (suc e) = peaks_upto P es e ++ peak P (suc e) es (opening P) ∷ []
+
+-- What a run that has ended gives: a history that ends, the rows that its sink has then, and the peak of each edge. The rows
+-- are those of the plan's meaning: as a list where the sink keeps their order, else each as often.
+pub record IsFinished (g : Given) (f : Finished) : Type 0 where
+  pub legal : IsHistory (plan_of g) f.history
+  pub ended : IsEnded (plan_of g) (state_after (plan_of g) f.history)
+  pub result : f.rows ≡ result_rows (plan_of g) (state_after (plan_of g) f.history)
+  pub same : SameRows ((plan_of g).node (plan_of g).sink).kept f.rows (meaning (plan_of g) (plan_of g).sink)
+  pub most : f.peaks ≡ peaks_upto (plan_of g) f.history ((plan_of g).sink - 1)
