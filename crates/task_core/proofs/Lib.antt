@@ -9,3 +9,4 @@ pub mod Resuming
 pub mod Finishing
 pub mod Leaving
 pub mod Outcomes
+pub mod Dues

@@ -3,6 +3,7 @@ pub mod Stored
 pub mod Queues
 pub mod Stages
 pub mod Outcome
+pub mod Due
 pub mod Choosing
 pub mod Calls
 pub mod Known

@@ -2,6 +2,7 @@
 #![tactic(auto)]
 
 mod choice;
+mod due;
 mod failing;
 mod outcome;
 mod queue;
