@@ -13,3 +13,5 @@ pub mod Rows
 pub mod Delivering
 pub mod At
 pub mod Tables
+pub mod Outcomes
+pub mod Dues

@@ -2,6 +2,8 @@ pub mod Told
 pub mod Stored
 pub mod Queues
 pub mod Stages
+pub mod Outcome
+pub mod Due
 pub mod Choosing
 pub mod Calls
 pub mod Known
