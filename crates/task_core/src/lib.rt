@@ -1,6 +1,7 @@
 //! The state of a plan's run: what waits, what is in flight, and the history that led there.
 #![tactic(auto)]
 
+mod deliver;
 mod putting;
 mod queue;
 mod result;

@@ -4,13 +4,24 @@ ghost use Rattle.std.specs.Prelude.{◌≡◌, ◌<◌, ◌-◌, ◌^◌, ◌++�
 ghost use Rattle.std.specs.VecDeque.{deque_len, deque_capacity};
 ghost use Rattle.task_core.specs.declared.queue.Queue.{Queue};
 ghost use Rattle.task_core.specs.declared.stage.Stage.{Stage};
+ghost use Rattle.plan_machine.specs.After.{is_done};
 ghost use Rattle.plan_machine.specs.declared.entry.Entry.TheVariants as EntryOf;
 ghost use Rattle.task_core.specs.Delivering.{with_less_busy, IsGrown, IsDeparting};
 
 use crate::queue::Queue;
 use crate::stage::{Flight, Stage};
-use plan_machine::Entry;
+use plan_machine::{Entry, Phase};
 use task_work::{Share, Waiting};
+
+/// Whether a node has ended.
+pub fn is_over(phase: Phase) -> bool
+    ensures { result ≡ is_done phase }
+{
+    match phase {
+        Phase::Done => true,
+        Phase::Emitting | Phase::Folding | Phase::Streaming | Phase::Tailing | Phase::Sealed => false,
+    }
+}
 
 /// A worker's task at a node is no longer in flight, which the history says.
 pub fn depart(

@@ -1,0 +1,33 @@
+// A worker gives back what it has in hand.
+
+ghost use Rattle.std.specs.Prelude.{◌≡◌, ◌≤◌, true, false};
+ghost use Rattle.plan_machine.specs.declared.entry.Entry.TheVariants as EntryOf;
+ghost use Rattle.plan_machine.specs.Plan.{IsWorker};
+ghost use Rattle.task_core.specs.Told.{plan_of, state_of, with_entry};
+ghost use Rattle.task_core.specs.Delivering.{IsFlying, is_dropped};
+
+use crate::putting::{depart, is_over};
+use crate::state::PlanState;
+use plan_nodes::Operator;
+
+impl<O: Operator> PlanState<O> {
+    /// Whether what comes back from this node is dropped: the run failed, or the node was stopped.
+    fn drops(&self, worker: u32, node: u32) -> bool
+        requires flying { IsFlying self.now worker node }
+        ensures { result ≡ is_dropped self.now node }
+    {
+        let _room = self.room;
+        self.failed || is_over(self.stages[(node - 1) as usize].phase)
+    }
+
+    /// Drops a delivery.
+    fn deliver_nothing(&mut self, worker: u32, node: u32)
+        requires worker { IsWorker (plan_of self.old.given) worker }
+        requires flying { IsFlying self.old worker node }
+        requires dropped { is_dropped self.old node ≡ true }
+        ensures { self.new ≡ with_entry self.old (EntryOf.Deliver worker) 0 }
+    {
+        let _room = self.room;
+        depart(&mut self.seats, &mut self.stages, &mut self.history, &mut self.flying, worker, node);
+    }
+}
