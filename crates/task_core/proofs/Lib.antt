@@ -6,3 +6,6 @@ pub mod Seated
 pub mod Landing
 pub mod Rows
 pub mod Delivering
+pub mod Landed
+pub mod Bringing
+pub mod BringFold

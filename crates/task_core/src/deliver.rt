@@ -3,12 +3,15 @@
 ghost use Rattle.std.specs.Prelude.{◌≡◌, ◌≤◌, true, false};
 ghost use Rattle.plan_machine.specs.declared.entry.Entry.TheVariants as EntryOf;
 ghost use Rattle.plan_machine.specs.Plan.{IsWorker};
+ghost use Rattle.task_work.specs.declared.work.Fruit.TheVariants as FruitOf;
 ghost use Rattle.task_core.specs.Told.{plan_of, state_of, with_entry};
+ghost use Rattle.task_core.specs.Calls.{IsDue};
 ghost use Rattle.task_core.specs.Delivering.{IsFlying, is_dropped};
 
-use crate::putting::{depart, is_over};
+use crate::putting::{depart, is_over, put_share};
 use crate::state::PlanState;
 use plan_nodes::Operator;
+use task_work::{Part, Share};
 
 impl<O: Operator> PlanState<O> {
     /// Whether what comes back from this node is dropped: the run failed, or the node was stopped.
@@ -29,5 +32,17 @@ impl<O: Operator> PlanState<O> {
     {
         let _room = self.room;
         depart(&mut self.seats, &mut self.stages, &mut self.history, &mut self.flying, worker, node);
+    }
+
+    /// Delivers what a Fold made.
+    fn deliver_fold(&mut self, worker: u32, node: u32, part: Part<O, O::Shared, O::Local>)
+        requires worker { IsWorker (plan_of self.old.given) worker }
+        requires due { IsDue O.meaning O.local_is O.shared_is self.old worker node (FruitOf.Fold part) }
+        requires kept { is_dropped self.old node ≡ false }
+        ensures { self.new ≡ with_entry self.old (EntryOf.Deliver worker) 0 }
+    {
+        let _room = self.room;
+        depart(&mut self.seats, &mut self.stages, &mut self.history, &mut self.flying, worker, node);
+        put_share(&mut self.shares, worker, node, Share::Part(part));
     }
 }
