@@ -9,3 +9,6 @@ pub mod Delivering
 pub mod Landed
 pub mod Bringing
 pub mod BringFold
+pub mod Queueing
+pub mod Giving
+pub mod BringEmit

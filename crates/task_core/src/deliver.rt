@@ -8,10 +8,14 @@ ghost use Rattle.task_core.specs.Told.{plan_of, state_of, with_entry};
 ghost use Rattle.task_core.specs.Calls.{IsDue};
 ghost use Rattle.task_core.specs.Delivering.{IsFlying, is_dropped};
 
-use crate::putting::{depart, is_over, put_share};
+use crate::putting::{depart, is_over, put_back, put_share};
 use crate::state::PlanState;
+use column_batch::Batch;
 use plan_nodes::Operator;
-use task_work::{Part, Share};
+use row_table::Table;
+use std::alloc::Global;
+use std::sync::Arc;
+use task_work::{Part, Share, Waiting};
 
 impl<O: Operator> PlanState<O> {
     /// Whether what comes back from this node is dropped: the run failed, or the node was stopped.
@@ -44,5 +48,18 @@ impl<O: Operator> PlanState<O> {
         let _room = self.room;
         depart(&mut self.seats, &mut self.stages, &mut self.history, &mut self.flying, worker, node);
         put_share(&mut self.shares, worker, node, Share::Part(part));
+    }
+
+    /// Delivers the batch that an Emit gave.
+    fn deliver_emit(&mut self, worker: u32, node: u32, table: Arc<Table, Global>, out: Batch)
+        requires worker { IsWorker (plan_of self.old.given) worker }
+        requires due { IsDue O.meaning O.local_is O.shared_is self.old worker node (FruitOf.Emit table out) }
+        requires kept { is_dropped self.old node ≡ false }
+        ensures { self.new ≡ with_entry self.old (EntryOf.Deliver worker) 0 }
+    {
+        let _room = self.room;
+        depart(&mut self.seats, &mut self.stages, &mut self.history, &mut self.flying, worker, node);
+        put_share(&mut self.shares, worker, node, Share::Table(table));
+        put_back(&mut self.queues, node, Waiting { batch: out, from: 0 });
     }
 }
