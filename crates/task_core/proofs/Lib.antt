@@ -12,3 +12,5 @@ pub mod BringFold
 pub mod Queueing
 pub mod Giving
 pub mod BringEmit
+pub mod Sizes
+pub mod BringTail

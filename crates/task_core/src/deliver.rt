@@ -62,4 +62,17 @@ impl<O: Operator> PlanState<O> {
         put_share(&mut self.shares, worker, node, Share::Table(table));
         put_back(&mut self.queues, node, Waiting { batch: out, from: 0 });
     }
+
+    /// Delivers the batch that a Tail gave.
+    fn deliver_tail(&mut self, worker: u32, node: u32, part: Part<O, O::Shared, O::Local>, out: Batch)
+        requires worker { IsWorker (plan_of self.old.given) worker }
+        requires due { IsDue O.meaning O.local_is O.shared_is self.old worker node (FruitOf.Tail part out) }
+        requires kept { is_dropped self.old node ≡ false }
+        ensures { self.new ≡ with_entry self.old (EntryOf.Deliver worker) 0 }
+    {
+        let _room = self.room;
+        depart(&mut self.seats, &mut self.stages, &mut self.history, &mut self.flying, worker, node);
+        put_share(&mut self.shares, worker, node, Share::Part(part));
+        put_back(&mut self.queues, node, Waiting { batch: out, from: 0 });
+    }
 }
