@@ -15,3 +15,11 @@ pub mod At
 pub mod Tables
 pub mod Outcomes
 pub mod Dues
+pub mod Landed
+pub mod Bringing
+pub mod BringFold
+pub mod Queueing
+pub mod Giving
+pub mod BringEmit
+pub mod Sizes
+pub mod BringTail

@@ -3,6 +3,7 @@
 
 mod choice;
 mod infos;
+mod deliver;
 mod putting;
 mod due;
 mod failing;
