@@ -14,3 +14,5 @@ pub mod Giving
 pub mod BringEmit
 pub mod Sizes
 pub mod BringTail
+pub mod Whole
+pub mod BringSeal
