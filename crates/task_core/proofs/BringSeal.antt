@@ -1,5 +1,6 @@
 -- A delivery of a Seal.
-use Rattle.std.proofs.Common.{◌≡◌, ◌≢◌, ℕ, suc, ◌+◌, ◌-◌, ◌<◌, ◌≤◌, Bool, true, false, nat_eq, List, [], ◌∷◌, ◌++◌, length, Option, Some, None, refl, sym, ap, subst, ◌∙◌, inl, inr, arith, slice_index_or, slice_set}
+use Rattle.std.proofs.Common.{◌≡◌, ◌≢◌, ℕ, suc, ◌+◌, ◌-◌, ◌<◌, ◌≤◌, Bool, true, false, nat_eq, List, [], ◌∷◌, ◌++◌, length, Option, Some, None, refl, sym, ap, subst, ◌∙◌, inl, inr, arith, slice_index_or, slice_set, Vec}
+use Rattle.std.specs.declared.alloc.Global.{Global}
 use Rattle.scalar_value.specs.declared.value.Value.{Value}
 use Rattle.scalar_value.specs.declared.value.ColType.{ColType}
 use Rattle.plan_machine.specs.declared.entry.Phase.{Phase}
@@ -8,6 +9,7 @@ use Rattle.plan_machine.specs.declared.entry.Job.{Job}
 use Rattle.plan_machine.specs.declared.entry.Job.TheVariants.{Seal}
 use Rattle.plan_machine.specs.declared.entry.Entry.{Entry}
 use Rattle.plan_machine.specs.declared.entry.Entry.TheVariants.{Deliver}
+use Rattle.plan_machine.specs.declared.shape.OpShape.{OpShape}
 use Rattle.plan_machine.specs.Phases.{phase_after_seal_of, part_count_of}
 use Rattle.plan_machine.specs.Lists.{upd}
 use Rattle.plan_machine.specs.Batch.{Batch, gathered, parts, rows_of}
@@ -31,7 +33,7 @@ use Rattle.task_core.specs.declared.stage.Stage.{Stage}
 use Rattle.task_core.specs.declared.stage.NodeInfo.{NodeInfo}
 use Rattle.task_core.specs.declared.stage.Flight.{Flight}
 use Rattle.task_core.specs.Told.{Given, Told, plan_of, site_of}
-use Rattle.task_core.specs.Stored.{Held, StageIs, PartStands, takes_all, Stands}
+use Rattle.task_core.specs.Stored.{Held, InfoIs, StageIs, PartStands, takes_all, Stands}
 use Rattle.task_core.specs.Delivering.{with_less_busy, in_phase}
 use Rattle.task_core.proofs.Held.{some_of}
 use Rattle.task_core.proofs.Known.{known}
@@ -139,3 +141,45 @@ module _ {O S L : Type 0}
           (subst (λ (x : Phase). RowAt meaning local_is shared_is g (suc p) s.failed x (s.locals (suc p)) (built' (suc p)) (s.streamed (suc p)) (upd s.tasks (suc q) None) row) (sym phase_here)
           (subst (λ (x : List (List Value)). RowAt meaning local_is shared_is g (suc p) s.failed after_seal (s.locals (suc p)) x (s.streamed (suc p)) (upd s.tasks (suc q) None) row) (sym built_here) row_at))
           seats_set (stages_set d) rows_set less same
+
+      -- what the node's info says of the phase after its Seal
+      phase_at : (infos : List NodeInfo) (p : ℕ) (ph : Phase) (shape : OpShape)
+          → p < length infos → Held (λ n i. InfoIs (plan_of g) (site_of g n) n i) infos
+          → ((d : NodeInfo) → shape ≡ (slice_index_or infos p d).shape) → ph ≡ phase_after_seal_of shape.streams shape.tails
+          → ph ≡ phase_after_seal_of ((plan_of g).node (suc p)).streams ((plan_of g).node (suc p)).tails
+      phase_at infos p ph shape within h shape_is is =
+          let d = some_of p infos within in
+          let i = h p d within in
+          let streams : shape.streams ≡ ((plan_of g).node (suc p)).streams = ap (λ (x : OpShape). x.streams) (shape_is d) ∙ sym i.streams in
+          let tails : shape.tails ≡ ((plan_of g).node (suc p)).tails = ap (λ (x : OpShape). x.tails) (shape_is d) ∙ sym i.tails in
+          is ∙ ap (λ (x : Bool). phase_after_seal_of x shape.tails) streams ∙ ap (λ (x : Bool). phase_after_seal_of ((plan_of g).node (suc p)).streams x) tails
+
+      pub seal_delivered : (es : List Entry) (infos : List NodeInfo) (stages stages1 stages' : List Stage) (queues : List Queue) (rows rows' : List (List (Option (Share O S L)))) (row : Vec (Option (Share O S L)) Global) (seats seats' : List (Option Flight)) (failed : Bool) (count count' room capacity capacity' w n given : ℕ) (ph : Phase) (shape : OpShape)
+          → Stands meaning local_is shared_is g es infos stages queues rows seats failed count room capacity
+          → Brings meaning local_is shared_is (record { given = g; history = es; room = room }) w n (fruit.Seal row given)
+          → ((d : NodeInfo) → shape ≡ (slice_index_or infos (n - 1) d).shape) → ph ≡ phase_after_seal_of shape.streams shape.tails
+          → seats' ≡ slice_set seats (w - 1) None
+          → ((d : Stage) → stages1 ≡ slice_set stages (n - 1) (with_less_busy (slice_index_or stages (n - 1) d)))
+          → ((d : Stage) → stages' ≡ slice_set stages1 (n - 1) (in_phase (slice_index_or stages1 (n - 1) d) ph given))
+          → rows' ≡ slice_set rows (n - 1) row.items
+          → count' ≡ count - 1 → capacity' ≡ capacity
+          → Stands meaning local_is shared_is g (es ++ Deliver w ∷ []) infos stages' queues rows' seats' failed count' room capacity'
+      seal_delivered es infos stages stages1 stages' queues rows rows' row seats seats' failed count count' room capacity capacity' w n given ph shape h b shape_is ph_is seats_set stages1_set stages_set rows_set less same =
+          let P = plan_of g in
+          let p = n - 1 in
+          let at = placed meaning local_is shared_is (record { given = g; history = es; room = room }) w n (fruit.Seal row given) h.legal b in
+          let node : IsNode P (suc p) = subst (λ m. IsNode P m) (sym at.at_node) at.node in
+          let f = at.brings in
+          let t : Task (List Value) = record at.task { node = suc p } in
+          let k = lands P h.lawful h.well es h.legal (suc (w - 1)) (suc p) t f.worker f.flies refl f.kept in
+          let all = h.stored.all_infos in
+          let all' = h.stored.all_stages in
+          let upper = node.1 in
+          let within : p < length infos = omega arith in
+          let within' : p < length stages = omega arith in
+          subst (λ v. Stands meaning local_is shared_is g (es ++ Deliver v ∷ []) infos stages' queues rows' seats' failed count' room capacity') at.at_worker
+          (seal_at es infos stages stages' queues rows rows' row.items seats seats' failed count count' room capacity capacity' (w - 1) p given ph at.task h f.worker f.flies node k f.fruit.0
+          (after_landed meaning local_is shared_is g es (suc (w - 1)) (suc p) t f.flies refl f.kept ∙ ap (landed P (state_after P es) (suc (w - 1)) t) f.fruit.0)
+          f.fruit.1 f.fruit.2
+          (phase_at infos p ph shape within h.stored.infos_are shape_is ph_is)
+          seats_set (written_twice stages stages1 stages' p with_less_busy (λ st. in_phase st ph given) within' stages1_set stages_set) rows_set less same)
