@@ -16,3 +16,4 @@ pub mod Sizes
 pub mod BringTail
 pub mod Whole
 pub mod BringSeal
+pub mod BringClose

@@ -11,7 +11,7 @@ ghost use Rattle.task_core.specs.Delivering.{IsFlying, is_dropped};
 use crate::putting::{begin_phase, depart, is_over, put_back, put_row, put_share, shape_at};
 use crate::state::PlanState;
 use column_batch::Batch;
-use plan_machine::phase_after_seal;
+use plan_machine::{Phase, phase_after_seal};
 use plan_nodes::Operator;
 use row_table::Table;
 use std::alloc::Global;
@@ -89,5 +89,18 @@ impl<O: Operator> PlanState<O> {
         depart(&mut self.seats, &mut self.stages, &mut self.history, &mut self.flying, worker, node);
         put_row(&mut self.shares, node, row);
         begin_phase(&mut self.stages, node, phase, count);
+    }
+
+    /// Delivers what a Close made of all that was streamed.
+    fn deliver_close(&mut self, worker: u32, node: u32, row: Vec<Option<Share<O, O::Shared, O::Local>>>, count: u64)
+        requires worker { IsWorker (plan_of self.old.given) worker }
+        requires due { IsDue O.meaning O.local_is O.shared_is self.old worker node (FruitOf.Close row count) }
+        requires kept { is_dropped self.old node ≡ false }
+        ensures { self.new ≡ with_entry self.old (EntryOf.Deliver worker) 0 }
+    {
+        let _room = self.room;
+        depart(&mut self.seats, &mut self.stages, &mut self.history, &mut self.flying, worker, node);
+        put_row(&mut self.shares, node, row);
+        begin_phase(&mut self.stages, node, Phase::Tailing, count);
     }
 }
