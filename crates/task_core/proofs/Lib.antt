@@ -17,3 +17,5 @@ pub mod BringTail
 pub mod Whole
 pub mod BringSeal
 pub mod BringClose
+pub mod Streamed
+pub mod BringStream
