@@ -280,7 +280,11 @@ impl Operator for FirstJoin {
     }
 
     fn tail(&self, alloc: Global, shared: &Built, k: u64) -> Mem<Batch> {
-        let rows = rows_of_part(alloc, shared.ends.as_slice(), k, self.size)?;
+        let ends = shared.ends.as_slice();
+        if k >= part_count(ends.len() as u64, self.size) {
+            return Ok(Batch::of_rows(None, self.columns()?, Seq::new(alloc)));
+        }
+        let rows = rows_of_part(alloc, ends, k, self.size)?;
         Ok(Batch::of_rows(None, self.columns()?, rows))
     }
 }

@@ -16,7 +16,7 @@ part-requires c =
     ∙ streamed-fit c.args.self.now.left c.args.self.now.right c.args.self.now.size s.0 s.3 c.in_ok-rows.rows s.1 c.args.shared.now.rows c.args.shared.now.ends c.args.batch.now.rows c.args.batch.now.kinds made s.4 c.rows.ensures.fits s.6
 
 pub returns : goal.returns
-returns c inputs built taken fits holds stands same =
+returns c streams inputs built taken fits holds stands same =
     let pushed : c.push.new.self ≡ c.args.local.now ++ c.args.batch.now ∷ [] = cc (c.in_ok-push.ensures.appended, c.in_ok-copy.ensures) in
     let keeps : Keeps (first_of inputs) c.push.new.self (taken ++ item c.args.batch.now c.args.from ∷ []) =
     subst (λ p. Keeps (first_of inputs) p (taken ++ item c.args.batch.now c.args.from ∷ [])) (sym pushed)
