@@ -66,3 +66,24 @@ next_past zero [] e = refl
 next_past (suc k) [] e = refl
 next_past zero (x ∷ xs) e = ap (λ (o : Option (Arc TableValue Global)). unwrap_or (option_map (λ (u : Arc TableValue Global). (arc_value u).rows) o) []) e
 next_past (suc k) (x ∷ xs) e = next_past k xs e
+
+-- One node further: its table, and what is left of the tables for the nodes behind it.
+pub table_here : (nodes : List Node) (ts : List (List (List Value))) (k taken : ℕ) (v : Node) (vs : List Node)
+    → drop k nodes ≡ v ∷ vs → drop k (tables_of nodes ts) ≡ tables_of (drop k nodes) (drop taken ts)
+    → at_or [] k (tables_of nodes ts) ≡ next_table (is_source v.kind) (drop taken ts)
+table_here nodes ts k taken v vs there so_far =
+    at_drop [] k (tables_of nodes ts) ∙ (ap (λ (xs : List (List (List Value))). at_or [] 0 xs) (so_far ∙ ap (λ ns. tables_of ns (drop taken ts)) there) ∙ tables_head v vs (drop taken ts))
+
+taken_by : (b : Bool) (taken : ℕ) (ts : List (List (List Value))) → cond b (drop 1 (drop taken ts)) (drop taken ts) ≡ drop (cond b (suc taken) taken) ts
+taken_by true taken ts = sym (drop_one taken ts)
+taken_by false taken ts = refl
+
+pub tables_next : (nodes : List Node) (ts : List (List (List Value))) (k taken : ℕ) (v : Node) (vs : List Node)
+    → drop k nodes ≡ v ∷ vs → drop k (tables_of nodes ts) ≡ tables_of (drop k nodes) (drop taken ts)
+    → drop (suc k) (tables_of nodes ts) ≡ tables_of (drop (suc k) nodes) (drop (cond (is_source v.kind) (suc taken) taken) ts)
+tables_next nodes ts k taken v vs there so_far =
+    drop_one k (tables_of nodes ts)
+    ∙ (ap (λ (xs : List (List (List Value))). drop 1 xs) (so_far ∙ ap (λ ns. tables_of ns (drop taken ts)) there)
+    ∙ (tables_rest v vs (drop taken ts)
+    ∙ (ap (λ us. tables_of vs us) (taken_by (is_source v.kind) taken ts)
+    ∙ ap (λ ns. tables_of ns (drop (cond (is_source v.kind) (suc taken) taken) ts)) (sym (drop_one k nodes ∙ ap (λ (ns : List Node). drop 1 ns) there)))))

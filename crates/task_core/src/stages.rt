@@ -1,4 +1,4 @@
-ghost use Rattle.std.specs.Prelude.{◌≡◌, ◌<◌, ◌≤◌, ℕ, drop, length, IfOk, slice_index_or, List, [], None, Option};
+ghost use Rattle.std.specs.Prelude.{◌≡◌, ◌<◌, ◌≤◌, ◌-◌, ◌^◌, ℕ, suc, cond, drop, length, IfOk, slice_index_or, List, [], None, Option};
 ghost use Rattle.std.specs.VecDeque.{deque_capacity};
 ghost use Rattle.backpressure.specs.Edges.{quiet};
 ghost use Rattle.plan_machine.specs.Lists.{at_or};
@@ -77,4 +77,34 @@ fn stage_of(node: &Node, rows: usize, batch: u32) -> Stage
         count: if source { part_count(rows as u64, batch) } else { 0 },
         busy: 0,
     }
+}
+
+/// How many tables are taken behind one more node.
+pub fn taken_behind(is_source: bool, taken: usize) -> usize
+    requires { taken < 2 ^ 64 - 1 }
+    ensures { result ≡ cond is_source (suc taken) taken }
+{
+    if is_source { taken + 1 } else { taken }
+}
+
+/// Where each node stands as the run begins.
+pub fn stages_of(
+    alloc: Global,
+    nodes: &[Node],
+    sources: &Seq<Arc<Table, Global>>,
+    batch: u32,
+) -> Mem<Vec<Stage>>
+    requires { 0 < batch }
+    ensures { IfOk result (λ made. (length made.items ≡ length nodes.now) × ((k : ℕ) (d : Stage) (e : Node) → k < length nodes.now →
+        slice_index_or made.items k d ≡ stage (slice_index_or nodes.now k e) batch (at_or [] k (tables_of nodes.now (rows_of_tables sources.now))))) }
+{
+    let mut made = Vec::with_capacity(alloc, nodes.len())?;
+    let mut taken = 0;
+    for node in nodes {
+        let source = is_source(&node.kind);
+        let rows = row_count(source, sources, taken);
+        made.push(stage_of(node, rows, batch))?;
+        taken = taken_behind(source, taken);
+    }
+    Ok(made)
 }
