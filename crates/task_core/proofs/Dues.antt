@@ -24,22 +24,8 @@ use Rattle.task_core.specs.Told.{Given, plan_of}
 use Rattle.task_core.specs.Stored.{Stands}
 use Rattle.task_core.specs.Choosing.{input_by}
 use Rattle.task_core.specs.Due.{left_by, finish_by}
+use Rattle.task_core.proofs.Choosing.{and_left, and_right, and_both, not_true}
 use Rattle.task_core.proofs.Choices.{no_stop, stage_at, info_at}
-
-pub and_left : (a b : Bool) → (a && b) ≡ true → a ≡ true
-and_left true b e = refl
-and_left false b e = e
-
-pub and_right : (a b : Bool) → (a && b) ≡ true → b ≡ true
-and_right true b e = e
-and_right false b e = cc
-
-pub and_both : (a b : Bool) → a ≡ true → b ≡ true → (a && b) ≡ true
-and_both a b p q = rw (p, q) refl
-
-pub not_true : (b : Bool) → not b ≡ true → b ≡ false
-not_true true e = cc
-not_true false e = refl
 
 module _ {R : Type 0} (P : MachinePlan R) (s : State R) (n next count busy : ℕ) (tails ended : Bool)
     (next_is : next ≡ s.next n)

@@ -10,3 +10,4 @@ pub mod Finishing
 pub mod Leaving
 pub mod Outcomes
 pub mod Dues
+pub mod Allowed

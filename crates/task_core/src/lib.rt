@@ -4,6 +4,7 @@
 mod choice;
 mod due;
 mod failing;
+mod legal;
 mod outcome;
 mod queue;
 mod result;
