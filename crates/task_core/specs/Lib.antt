@@ -8,4 +8,6 @@ pub mod Legal
 pub mod Choosing
 pub mod Calls
 pub mod Known
+pub mod Delivering
 pub mod Opening
+pub mod Openings

@@ -2,6 +2,9 @@
 #![tactic(auto)]
 
 mod choice;
+mod infos;
+mod deliver;
+mod putting;
 mod due;
 mod failing;
 mod legal;
@@ -11,6 +14,7 @@ mod result;
 mod room;
 mod setting;
 mod stage;
+mod stages;
 mod state;
 mod upkeep;
 

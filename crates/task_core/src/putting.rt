@@ -1,0 +1,88 @@
+// What a delivery does to the parts of a plan's state.
+
+ghost use Rattle.std.specs.Prelude.{◌≡◌, ◌<◌, ◌-◌, ◌^◌, ◌++◌, [], ◌∷◌, List, length, map, Some, None, Option, slice_set, slice_index_or, vec_len, vec_capacity};
+ghost use Rattle.std.specs.VecDeque.{deque_len, deque_capacity};
+ghost use Rattle.task_core.specs.declared.queue.Queue.{Queue};
+ghost use Rattle.task_core.specs.declared.stage.Stage.{Stage};
+ghost use Rattle.plan_machine.specs.After.{is_done};
+ghost use Rattle.plan_machine.specs.declared.entry.Entry.TheVariants as EntryOf;
+ghost use Rattle.task_core.specs.Delivering.{with_less_busy, IsGrown, IsDeparting, HasSeat, HasRoom};
+
+use crate::queue::Queue;
+use crate::stage::{Flight, Stage};
+use plan_machine::{Entry, Phase};
+use task_work::{Share, Waiting};
+
+/// Whether a node has ended.
+pub fn is_over(phase: Phase) -> bool
+    ensures { result ≡ is_done phase }
+{
+    match phase {
+        Phase::Done => true,
+        Phase::Emitting | Phase::Folding | Phase::Streaming | Phase::Tailing | Phase::Sealed => false,
+    }
+}
+
+/// A worker's task at a node is no longer in flight, which the history says.
+pub fn depart(
+    seats: &mut Vec<Option<Flight>>,
+    stages: &mut Vec<Stage>,
+    history: &mut Vec<Entry>,
+    flying: &mut usize,
+    worker: u32,
+    node: u32,
+)
+    requires { IsDeparting seats.old.items stages.old.items flying.old (length history.old.items) (vec_capacity history.old) worker node }
+    ensures seats { seats.new.items ≡ slice_set seats.old.items (worker - 1) None }
+    ensures stages { (d : Stage) → stages.new.items ≡ slice_set stages.old.items (node - 1) (with_less_busy (slice_index_or stages.old.items (node - 1) d)) }
+    ensures history { history.new.items ≡ history.old.items ++ EntryOf.Deliver worker ∷ [] }
+    ensures capacity { vec_capacity history.new ≡ vec_capacity history.old }
+    ensures flying { flying.new ≡ flying.old - 1 }
+{
+    seats[(worker - 1) as usize] = None;
+    stages[(node - 1) as usize].busy -= 1;
+    history.push_reserved(Entry::Deliver { worker });
+    *flying -= 1;
+}
+
+/// Puts a worker's share of a node back.
+pub fn put_share<O: Drop, S: Drop, L: Drop>(shares: &mut Vec<Vec<Option<Share<O, S, L>>>>, worker: u32, node: u32, share: Share<O, S, L>)
+    requires { HasSeat (map (λ row. row.items) shares.old.items) worker node }
+    ensures {
+        (d : List (Option (Share O S L)))
+        → map (λ row. row.items) shares.new.items
+            ≡ slice_set (map (λ row. row.items) shares.old.items) (node - 1)
+                (slice_set (slice_index_or (map (λ row. row.items) shares.old.items) (node - 1) d) (worker - 1) (Some share))
+    }
+{
+    let row = &mut shares[(node - 1) as usize];
+    row[(worker - 1) as usize] = Some(share);
+}
+
+/// Puts a batch behind all that wait on an edge.
+pub fn put_back(queues: &mut Vec<Queue>, edge: u32, waiting: Waiting)
+    requires { HasRoom queues.old.items edge }
+    ensures {
+        (d : Queue) → (q : Queue)
+        × (queues.new.items ≡ slice_set queues.old.items (edge - 1) q)
+        × IsGrown (slice_index_or queues.old.items (edge - 1) d) ((slice_index_or queues.old.items (edge - 1) d).waiting.items ++ waiting ∷ []) q
+    }
+{
+    let queue = &mut queues[(edge - 1) as usize];
+    queue.waiting.push_back_reserved(waiting);
+    queue.edge.came();
+}
+
+/// Puts a batch before all that wait on an edge.
+pub fn put_front(queues: &mut Vec<Queue>, edge: u32, waiting: Waiting)
+    requires { HasRoom queues.old.items edge }
+    ensures {
+        (d : Queue) → (q : Queue)
+        × (queues.new.items ≡ slice_set queues.old.items (edge - 1) q)
+        × IsGrown (slice_index_or queues.old.items (edge - 1) d) (waiting ∷ (slice_index_or queues.old.items (edge - 1) d).waiting.items) q
+    }
+{
+    let queue = &mut queues[(edge - 1) as usize];
+    queue.waiting.push_front_reserved(waiting);
+    queue.edge.came();
+}
