@@ -1,11 +1,11 @@
 -- What the parts of a full join hold after each of its calls.
-use Rattle.std.proofs.Common.{◌≡◌, ℕ, zero, suc, ◌<◌, arith, add-one, ◌+◌, Bool, true, cond, nat_lt, ◌&&◌, List, [], ◌∷◌, ◌++◌, length, take, drop, Option, Some, None, Result, Ok, Err, IfOk, OnOk, refl, sym, ◌∙◌, ap, ap₂, subst, IsTrue}
+use Rattle.std.proofs.Common.{◌≡◌, ℕ, zero, suc, ◌<◌, arith, add-one, ◌+◌, ◌&&◌, List, [], ◌∷◌, ◌++◌, length, take, Result, Ok, Err, IfOk, OnOk, refl, sym, ◌∙◌, ap, ap₂, subst, IsTrue}
 use Rattle.scalar_value.specs.declared.value.Value.{Value}
 use Rattle.scalar_value.specs.declared.value.Value.TheVariants.{Missing}
 use Rattle.scalar_value.specs.declared.value.ColType.{ColType}
 use Rattle.plan_machine.specs.Batch.{Batch, rows_of, gathered}
 use Rattle.column_batch.specs.Batches.{BatchValue, fit_kinds}
-use Rattle.plan_nodes.specs.Operators.{OpMeaning, Each, flat, first_of, second_of, sent_rows, next_from, end_count}
+use Rattle.plan_nodes.specs.Operators.{Each, flat, first_of, second_of}
 use Rattle.plan_nodes.specs.Kinds.{missing_row, joined_rows, unmatched_rows, same_kinds, keys_fit}
 use Rattle.plan_nodes.specs.Examples.{by_first, bare, first_join, Keeps, Holds}
 use Rattle.plan_nodes.proofs.Parts.{left-true, right-true, keeps-flat, keeps-rows, keeps-gathered, keeps-fit}

@@ -24,3 +24,8 @@ pub mod Giving
 pub mod BringEmit
 pub mod Sizes
 pub mod BringTail
+pub mod Whole
+pub mod BringSeal
+pub mod BringClose
+pub mod Streamed
+pub mod BringStream

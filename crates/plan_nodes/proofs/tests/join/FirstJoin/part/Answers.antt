@@ -1,4 +1,4 @@
-use Rattle.std.proofs.Common.{◌≡◌, ◌∙◌, ap, ap₂, sym, drop}
+use Rattle.std.proofs.Common.{◌∙◌, ap₂, drop}
 use Rattle.column_batch.specs.Batches.{fit_kinds}
 use Rattle.column_batch.proofs.Fitting.{fit_kinds-take, fit_kinds-drop}
 use Rattle.plan_nodes.proofs.tests.join.FirstJoin.part.Goals as goal

@@ -1,4 +1,4 @@
-use Rattle.std.proofs.Common.{◌≡◌, []}
+use Rattle.std.proofs.Common.{◌≡◌}
 use Rattle.plan_machine.specs.Batch.{rows_of}
 use Rattle.plan_nodes.specs.Operators.{flat}
 use Rattle.plan_nodes.specs.Kinds.{unmatched_rows}

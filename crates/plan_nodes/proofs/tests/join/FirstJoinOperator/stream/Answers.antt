@@ -1,4 +1,4 @@
-use Rattle.std.proofs.Common.{◌≡◌, ◌+◌, ◌++◌, [], ◌∷◌, nat_lt, cond, length, take, drop, Some, None, ℕ, List, sym, ◌∙◌, ap, subst}
+use Rattle.std.proofs.Common.{◌≡◌, ◌+◌, ◌++◌, [], ◌∷◌, nat_lt, cond, length, take, drop, Some, None, List, sym, ◌∙◌, ap, subst}
 use Rattle.scalar_value.specs.declared.value.Value.{Value}
 use Rattle.column_batch.specs.Batches.{fit_kinds}
 use Rattle.plan_nodes.specs.Operators.{first_of, item}
