@@ -1,10 +1,10 @@
 -- What can be done at a node in its phase, and which claims are enabled.
-use Rattle.std.proofs.Common.{◌≡◌, ℕ, ◌-◌, ◌<◌, Bool, true, false, not, List, [], length, ◌↔◌, IsTrue, Option, None, refl, sym, ap, subst, ◌∙◌, arith, slice_index_or}
+use Rattle.std.proofs.Common.{◌≡◌, ℕ, ◌-◌, Bool, true, false, not, List, length, ◌↔◌, IsTrue, Option, None, refl, sym, ap, subst, ◌∙◌, arith, slice_index_or}
 use Rattle.std.proofs.lemmas.List.{nil_from_length}
 use Rattle.scalar_value.specs.declared.value.Value.{Value}
 use Rattle.scalar_value.specs.declared.value.ColType.{ColType}
 use Rattle.plan_machine.specs.declared.entry.Phase.{Phase}
-use Rattle.plan_machine.specs.declared.entry.Phase.TheVariants.{Emitting, Folding, Streaming, Tailing, Sealed, Done}
+use Rattle.plan_machine.specs.declared.entry.Phase.TheVariants.{Emitting, Folding, Streaming, Tailing}
 use Rattle.plan_machine.specs.declared.entry.Job.{Job}
 use Rattle.plan_machine.specs.declared.entry.Job.TheVariants.{Emit, Fold, Seal, Stream, Close, Tail}
 use Rattle.plan_machine.specs.declared.entry.Entry.{Entry}
@@ -12,7 +12,7 @@ use Rattle.plan_machine.specs.declared.entry.Entry.TheVariants.{Claim, Stop}
 use Rattle.plan_machine.specs.Batch.{Batch, parts}
 use Rattle.plan_machine.specs.Plan.{Plan as MachinePlan, IsNode, IsWorker, folds_from, streams_from}
 use Rattle.plan_machine.specs.State.{State, tasks_at, tail_rows, IsEndedEdge}
-use Rattle.plan_machine.specs.Enabled.{Enabled, Ready, CanDo, CanPause}
+use Rattle.plan_machine.specs.Enabled.{Enabled, CanDo, CanPause}
 use Rattle.plan_machine.specs.InFlight.{phase_of}
 use Rattle.plan_machine.specs.History.{state_after}
 use Rattle.plan_nodes.specs.Operators.{OpMeaning}

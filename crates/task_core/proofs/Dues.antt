@@ -1,5 +1,5 @@
 -- When a node may end, by what is stored of it, and which upkeep is due.
-use Rattle.std.proofs.Common.{◌≡◌, ℕ, ◌-◌, Bool, true, false, not, ◌&&◌, nat_eq, List, [], length, ◌↔◌, IsTrue, Option, refl, sym, ap, subst, ◌∙◌, arith, slice_index_or, eqb-true, eq-eqb}
+use Rattle.std.proofs.Common.{◌≡◌, ℕ, ◌-◌, Bool, false, not, nat_eq, List, length, ◌↔◌, IsTrue, Option, refl, sym, ap, subst, ◌∙◌, slice_index_or, eqb-true, eq-eqb}
 use Rattle.std.proofs.lemmas.List.{nil_from_length}
 use Rattle.scalar_value.specs.declared.value.Value.{Value}
 use Rattle.scalar_value.specs.declared.value.ColType.{ColType}
@@ -12,7 +12,6 @@ use Rattle.plan_machine.specs.Plan.{Plan as MachinePlan, IsNode, streams_from}
 use Rattle.plan_machine.specs.State.{State, tasks_at, tail_rows, IsIdle, IsEndedEdge}
 use Rattle.plan_machine.specs.Enabled.{Enabled, MayFinish}
 use Rattle.plan_machine.specs.History.{state_after}
-use Rattle.plan_machine.specs.Upkeep.{IsUpkeep}
 use Rattle.plan_machine.specs.Driver.{NoUpkeep, NoneOf}
 use Rattle.plan_nodes.specs.Operators.{OpMeaning}
 use Rattle.task_work.specs.declared.work.Share.{Share}

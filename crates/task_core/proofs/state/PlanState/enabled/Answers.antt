@@ -1,5 +1,4 @@
 use Rattle.std.proofs.Common.{◌↔◌, IsTrue, false, sym, subst}
-use Rattle.plan_machine.specs.declared.entry.Entry.TheVariants.{Stop}
 use Rattle.plan_machine.specs.Enabled.{Enabled}
 use Rattle.task_core.specs.Told.{plan_of, state_of}
 use Rattle.task_core.proofs.Allowed.{stop_is}
