@@ -1,5 +1,5 @@
 -- When a node may end, by what is stored of it, and which upkeep is due.
-use Rattle.std.proofs.Common.{◌≡◌, ℕ, ◌-◌, Bool, true, false, not, ◌&&◌, nat_eq, List, [], length, ◌↔◌, IsTrue, Option, refl, sym, ap, subst, ◌∙◌, arith, slice_index_or, eqb-true, eq-eqb}
+use Rattle.std.proofs.Common.{◌≡◌, ℕ, ◌-◌, Bool, false, not, nat_eq, List, length, ◌↔◌, IsTrue, Option, refl, sym, ap, subst, ◌∙◌, slice_index_or, eqb-true, eq-eqb}
 use Rattle.std.proofs.lemmas.List.{nil_from_length}
 use Rattle.scalar_value.specs.declared.value.Value.{Value}
 use Rattle.scalar_value.specs.declared.value.ColType.{ColType}
@@ -12,7 +12,6 @@ use Rattle.plan_machine.specs.Plan.{Plan as MachinePlan, IsNode, streams_from}
 use Rattle.plan_machine.specs.State.{State, tasks_at, tail_rows, IsIdle, IsEndedEdge}
 use Rattle.plan_machine.specs.Enabled.{Enabled, MayFinish}
 use Rattle.plan_machine.specs.History.{state_after}
-use Rattle.plan_machine.specs.Upkeep.{IsUpkeep}
 use Rattle.plan_machine.specs.Driver.{NoUpkeep, NoneOf}
 use Rattle.plan_nodes.specs.Operators.{OpMeaning}
 use Rattle.task_work.specs.declared.work.Share.{Share}
@@ -24,22 +23,8 @@ use Rattle.task_core.specs.Told.{Given, plan_of}
 use Rattle.task_core.specs.Stored.{Stands}
 use Rattle.task_core.specs.Choosing.{input_by}
 use Rattle.task_core.specs.Due.{left_by, finish_by}
+use Rattle.task_core.proofs.Choosing.{and_left, and_right, and_both, not_true}
 use Rattle.task_core.proofs.Choices.{no_stop, stage_at, info_at}
-
-pub and_left : (a b : Bool) → (a && b) ≡ true → a ≡ true
-and_left true b e = refl
-and_left false b e = e
-
-pub and_right : (a b : Bool) → (a && b) ≡ true → b ≡ true
-and_right true b e = e
-and_right false b e = cc
-
-pub and_both : (a b : Bool) → a ≡ true → b ≡ true → (a && b) ≡ true
-and_both a b p q = rw (p, q) refl
-
-pub not_true : (b : Bool) → not b ≡ true → b ≡ false
-not_true true e = cc
-not_true false e = refl
 
 module _ {R : Type 0} (P : MachinePlan R) (s : State R) (n next count busy : ℕ) (tails ended : Bool)
     (next_is : next ≡ s.next n)

@@ -1,5 +1,5 @@
 -- A node ends.
-use Rattle.std.proofs.Common.{◌≡◌, ◌≢◌, ℕ, suc, ◌+◌, ◌-◌, ◌<◌, ◌≤◌, Bool, true, false, nat_eq, List, [], ◌∷◌, ◌++◌, length, ◌⊎◌, inl, inr, Option, Some, None, refl, sym, ap, subst, ◌∙◌, arith, slice_index_or, slice_set, eqb-true}
+use Rattle.std.proofs.Common.{◌≡◌, ℕ, suc, ◌+◌, ◌-◌, ◌<◌, ◌≤◌, Bool, true, false, nat_eq, List, [], ◌∷◌, ◌++◌, length, ◌⊎◌, inl, inr, Option, Some, None, refl, sym, subst, ◌∙◌, arith, slice_index_or, slice_set, eqb-true}
 use Rattle.scalar_value.specs.declared.value.Value.{Value}
 use Rattle.scalar_value.specs.declared.value.ColType.{ColType}
 use Rattle.plan_machine.specs.declared.entry.Phase.{Phase}
@@ -8,7 +8,7 @@ use Rattle.plan_machine.specs.declared.entry.Entry.{Entry}
 use Rattle.plan_machine.specs.declared.entry.Entry.TheVariants.{Finish}
 use Rattle.plan_machine.specs.Lists.{upd}
 use Rattle.plan_machine.specs.Batch.{Batch}
-use Rattle.plan_machine.specs.Plan.{Plan as MachinePlan, IsNode}
+use Rattle.plan_machine.specs.Plan.{Plan as MachinePlan}
 use Rattle.plan_machine.specs.State.{State, Task, tasks_at}
 use Rattle.plan_machine.specs.Enabled.{Enabled, MayFinish}
 use Rattle.plan_machine.specs.After.{after}
@@ -25,10 +25,10 @@ use Rattle.task_core.specs.declared.stage.NodeInfo.{NodeInfo}
 use Rattle.task_core.specs.declared.stage.Flight.{Flight}
 use Rattle.task_core.specs.Told.{Given, plan_of, site_of}
 use Rattle.task_core.specs.Known.{Known}
-use Rattle.task_core.specs.Stored.{Held, Stored, Stands, StageIs, RowIs, SlotIs, SlotStands, PartStands, Away, AllAway, is_live}
+use Rattle.task_core.specs.Stored.{Stored, Stands, StageIs, RowIs, SlotStands, PartStands, is_live}
 use Rattle.task_core.specs.Stages.{ended}
 use Rattle.std.proofs.lemmas.List.{length-set}
-use Rattle.task_core.proofs.Held.{held_set, held_map, held_else, some_of}
+use Rattle.task_core.proofs.Held.{held_set, held_else, some_of}
 use Rattle.task_core.proofs.Growing.{with_most, standing}
 use Rattle.task_core.proofs.Pausing.{most_stays}
 use Rattle.task_core.proofs.Known.{known}

@@ -1,19 +1,19 @@
 -- A worker's task ends, and with it the run.
-use Rattle.std.proofs.Common.{◌≡◌, ◌≢◌, ℕ, suc, ◌+◌, ◌-◌, ◌<◌, ◌≤◌, Bool, true, false, nat_eq, List, [], ◌∷◌, ◌++◌, length, ◌⊎◌, inl, inr, Option, Some, None, IsSome, refl, sym, ap, subst, ◌∙◌, arith, slice_index_or, slice_set}
+use Rattle.std.proofs.Common.{◌≡◌, ◌≢◌, ℕ, suc, ◌+◌, ◌-◌, ◌<◌, ◌≤◌, Bool, true, nat_eq, List, [], ◌∷◌, ◌++◌, length, inl, inr, Option, Some, None, refl, sym, ap, subst, ◌∙◌, arith, slice_index_or, slice_set}
 use Rattle.scalar_value.specs.declared.value.Value.{Value}
 use Rattle.scalar_value.specs.declared.value.ColType.{ColType}
 use Rattle.plan_machine.specs.declared.entry.Phase.{Phase}
 use Rattle.plan_machine.specs.declared.entry.Entry.{Entry}
 use Rattle.plan_machine.specs.declared.entry.Entry.TheVariants.{Fail}
-use Rattle.plan_machine.specs.Lists.{upd, weigh, sum_to}
+use Rattle.plan_machine.specs.Lists.{upd, sum_to}
 use Rattle.plan_machine.specs.Batch.{Batch}
 use Rattle.plan_machine.specs.Plan.{Plan as MachinePlan, IsNode, IsWorker}
-use Rattle.plan_machine.specs.State.{State, Task, tasks_at, on_node, opening}
-use Rattle.plan_machine.specs.Enabled.{Enabled, HasTask}
+use Rattle.plan_machine.specs.State.{State, Task, on_node, opening}
+use Rattle.plan_machine.specs.Enabled.{HasTask}
 use Rattle.plan_machine.specs.After.{after}
 use Rattle.plan_machine.specs.History.{state_after, peak}
 use Rattle.plan_machine.proofs.Weigh.{weigh-one, upd-here, upd-else}
-use Rattle.plan_machine.proofs.Flight.{flying as tasks_of, flying-same, flying-less, flying-has, on_node-else}
+use Rattle.plan_machine.proofs.Flight.{flying as tasks_of, flying-same, flying-less, on_node-else}
 use Rattle.plan_machine.proofs.Cost.{sum-upd}
 use Rattle.plan_nodes.specs.Operators.{OpMeaning}
 use Rattle.task_work.specs.Sites.{Site}
@@ -23,13 +23,13 @@ use Rattle.task_core.specs.declared.stage.Stage.{Stage}
 use Rattle.task_core.specs.declared.stage.NodeInfo.{NodeInfo}
 use Rattle.task_core.specs.declared.stage.Flight.{Flight}
 use Rattle.task_core.specs.Told.{Given, plan_of, site_of}
-use Rattle.task_core.specs.Stored.{Held, Stored, Stands, StageIs, RowIs, SeatIs, in_flight}
+use Rattle.task_core.specs.Stored.{Stored, Stands, StageIs, RowIs, SeatIs, in_flight}
 use Rattle.task_core.specs.Stages.{less_busy}
 use Rattle.std.proofs.lemmas.List.{length-set}
 use Rattle.task_core.proofs.Held.{held_set, held_map, some_of}
 use Rattle.task_core.proofs.Growing.{with_most, standing}
 use Rattle.task_core.proofs.Pausing.{most_stays}
-use Rattle.task_core.proofs.Seated.{Seated, seated}
+use Rattle.task_core.proofs.Seated.{seated}
 
 seat_node : (task : Option (Task (List Value))) (seat : Option Flight) (t : Task (List Value)) (f : Flight) → task ≡ Some t → seat ≡ Some f → SeatIs task seat → f.node ≡ t.node
 seat_node None seat t f e q h = cc

@@ -15,6 +15,7 @@ pub mod At
 pub mod Tables
 pub mod Outcomes
 pub mod Dues
+pub mod Allowed
 pub mod Landed
 pub mod Bringing
 pub mod BringFold

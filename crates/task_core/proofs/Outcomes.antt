@@ -1,5 +1,5 @@
 -- How a run stands, by what is stored.
-use Rattle.std.proofs.Common.{◌≡◌, ◌≢◌, ℕ, zero, suc, ◌+◌, ◌-◌, ◌<◌, ◌≤◌, Bool, true, false, cond, nat_lt, List, [], length, ◌⊎◌, ◌↔◌, inl, inr, Option, Some, None, refl, sym, ap, subst, ◌∙◌, arith, slice_index_or, lt-ltb, ltb-true}
+use Rattle.std.proofs.Common.{◌≡◌, ℕ, zero, suc, ◌-◌, ◌<◌, ◌≤◌, Bool, true, false, cond, nat_lt, List, length, ◌↔◌, inl, inr, Option, Some, None, refl, sym, ap, subst, ◌∙◌, arith, slice_index_or, lt-ltb, ltb-true}
 use Rattle.std.proofs.lemmas.Bool.{cases_lt}
 use Rattle.scalar_value.specs.declared.value.Value.{Value}
 use Rattle.scalar_value.specs.declared.value.ColType.{ColType}
@@ -8,7 +8,7 @@ use Rattle.plan_machine.specs.declared.entry.Phase.TheVariants.{Emitting, Foldin
 use Rattle.plan_machine.specs.declared.entry.Entry.{Entry}
 use Rattle.plan_machine.specs.Lists.{sum_to}
 use Rattle.plan_machine.specs.Batch.{Batch}
-use Rattle.plan_machine.specs.Plan.{Plan as MachinePlan, IsWorker}
+use Rattle.plan_machine.specs.Plan.{Plan as MachinePlan}
 use Rattle.plan_machine.specs.State.{State, Task, NothingInFlight}
 use Rattle.plan_machine.specs.After.{is_done}
 use Rattle.plan_machine.specs.History.{state_after, IsEnded, HasFailed}

@@ -1,5 +1,5 @@
 -- An edge goes on.
-use Rattle.std.proofs.Common.{◌≡◌, ℕ, suc, ◌+◌, ◌-◌, ◌<◌, ◌≤◌, Bool, true, false, List, [], ◌∷◌, ◌++◌, length, Option, sym, subst, arith, slice_index_or, slice_set}
+use Rattle.std.proofs.Common.{◌≡◌, ℕ, suc, ◌+◌, ◌-◌, ◌<◌, ◌≤◌, Bool, false, List, [], ◌∷◌, ◌++◌, length, Option, sym, subst, arith, slice_index_or, slice_set}
 use Rattle.scalar_value.specs.declared.value.Value.{Value}
 use Rattle.scalar_value.specs.declared.value.ColType.{ColType}
 use Rattle.plan_machine.specs.declared.entry.Entry.{Entry}

@@ -4,6 +4,7 @@ pub mod Queues
 pub mod Stages
 pub mod Outcome
 pub mod Due
+pub mod Legal
 pub mod Choosing
 pub mod Calls
 pub mod Known

@@ -7,6 +7,7 @@ mod deliver;
 mod putting;
 mod due;
 mod failing;
+mod legal;
 mod outcome;
 mod queue;
 mod result;

@@ -1,4 +1,4 @@
-use Rattle.std.proofs.Common.{ℕ, ◌<◌, ◌≤◌}
+use Rattle.std.proofs.Common.{ℕ, ◌≤◌}
 use Rattle.plan_machine.specs.declared.entry.Entry.TheVariants.{Finish}
 use Rattle.plan_machine.specs.Enabled.{Enabled}
 use Rattle.task_core.specs.Told.{plan_of, state_of}

@@ -1,0 +1,10 @@
+use Rattle.std.proofs.Common.{◌↔◌, IsTrue, false, sym, subst}
+use Rattle.plan_machine.specs.Enabled.{Enabled}
+use Rattle.task_core.specs.Told.{plan_of, state_of}
+use Rattle.task_core.proofs.Allowed.{stop_is}
+use Rattle.task_core.proofs.state.PlanState.enabled.Goals as goal
+
+pub returns-in-Stop : goal.returns-in-Stop
+returns-in-Stop g c =
+    subst (λ x. IsTrue false ↔ Enabled (plan_of c.args.self.now.given) (state_of c.args.self.now) x) (sym c.in-Stop.is)
+    (stop_is c.args.self.now.given (state_of c.args.self.now) c.in-Stop.node)
