@@ -28,7 +28,8 @@ use Rattle.task_core.specs.declared.stage.NodeInfo.{NodeInfo}
 use Rattle.task_core.specs.declared.stage.Flight.{Flight}
 use Rattle.task_core.specs.Told.{Given, Told, plan_of, site_of}
 use Rattle.task_core.specs.Stored.{StageIs, Stands}
-use Rattle.task_core.specs.Delivering.{with_less_busy, in_phase}
+use Rattle.task_core.specs.Stages.{less_busy}
+use Rattle.task_core.specs.Delivering.{in_phase}
 use Rattle.task_core.proofs.Held.{some_of}
 use Rattle.task_core.proofs.Delivering.{RowAt, stage_landed, departing}
 use Rattle.task_core.proofs.Landed.{Lands, lands, after_landed}
@@ -51,7 +52,7 @@ module _ {O S L : Type 0}
         → IsRow meaning local_is shared_is (site_of g (suc p)) (first_of (site_of g (suc p)).inputs) [] t0.built t0.took row
         → given ≡ end_count (site_of g (suc p)).meaning t0.built t0.took
         → seats' ≡ slice_set seats q None
-        → ((d : Stage) → stages' ≡ slice_set stages p (in_phase (with_less_busy (slice_index_or stages p d)) Tailing given))
+        → ((d : Stage) → stages' ≡ slice_set stages p (in_phase (less_busy (slice_index_or stages p d)) Tailing given))
         → rows' ≡ slice_set rows p row
         → count' ≡ count - 1 → capacity' ≡ capacity
         → Stands meaning local_is shared_is g (es ++ Deliver (suc q) ∷ []) infos stages' queues rows' seats' failed count' room capacity'
@@ -74,7 +75,7 @@ module _ {O S L : Type 0}
         let row_at : RowAt meaning local_is shared_is g (suc p) s.failed Tailing (s.locals (suc p)) (s.built (suc p)) took (upd s.tasks (suc q) None) row =
             row_new meaning local_is shared_is v (nat_eq (suc p) P.sink) s.failed Tailing (s.locals (suc p)) (s.built (suc p)) t0.built took took (upd s.tasks (suc q) None) (suc p) (first_of v.inputs) row row_is
             (λ m part lt is_part. subst (λ (x : List (List Value)). IsShared meaning local_is shared_is v x took part) k.built is_part.is_shared) in
-        let stage_at : StageIs P (suc p) Tailing (s.next (suc p)) (s.built (suc p)) took (length (flying P (upd s.tasks (suc q) None) (suc p))) (in_phase (with_less_busy st) Tailing given) =
+        let stage_at : StageIs P (suc p) Tailing (s.next (suc p)) (s.built (suc p)) took (length (flying P (upd s.tasks (suc q) None) (suc p))) (in_phase (less_busy st) Tailing given) =
             record {
               is_phase = refl;
               is_next = old.is_next;
@@ -84,11 +85,11 @@ module _ {O S L : Type 0}
                   (ends_in g (suc p) t0.built took given fits.3 count_is);
               busy = old.busy;
             } in
-        whole_at meaning local_is shared_is g es phase' s.built streamed' infos stages stages' queues rows rows' row seats seats' failed count count' room capacity capacity' q p t (in_phase (with_less_busy st) Tailing given) h worker flies refl
+        whole_at meaning local_is shared_is g es phase' s.built streamed' infos stages stages' queues rows rows' row seats seats' failed count count' room capacity capacity' q p t (in_phase (less_busy st) Tailing given) h worker flies refl
         is
         (record { phases = λ n ne. upd-else s.phase (suc p) Tailing n ne; lists = λ n ne. refl; builds = λ n ne. refl; streams = λ n ne. upd-else s.streamed (suc p) took n ne })
-        (subst (λ (x : Phase). StageIs P (suc p) x (s.next (suc p)) (s.built (suc p)) (streamed' (suc p)) (length (flying P (upd s.tasks (suc q) None) (suc p))) (in_phase (with_less_busy st) Tailing given)) (sym phase_here)
-        (subst (λ (x : List (Batch (List Value))). StageIs P (suc p) Tailing (s.next (suc p)) (s.built (suc p)) x (length (flying P (upd s.tasks (suc q) None) (suc p))) (in_phase (with_less_busy st) Tailing given)) (sym streamed_here) stage_at))
+        (subst (λ (x : Phase). StageIs P (suc p) x (s.next (suc p)) (s.built (suc p)) (streamed' (suc p)) (length (flying P (upd s.tasks (suc q) None) (suc p))) (in_phase (less_busy st) Tailing given)) (sym phase_here)
+        (subst (λ (x : List (Batch (List Value))). StageIs P (suc p) Tailing (s.next (suc p)) (s.built (suc p)) x (length (flying P (upd s.tasks (suc q) None) (suc p))) (in_phase (less_busy st) Tailing given)) (sym streamed_here) stage_at))
         (subst (λ (x : Phase). RowAt meaning local_is shared_is g (suc p) s.failed x (s.locals (suc p)) (s.built (suc p)) (streamed' (suc p)) (upd s.tasks (suc q) None) row) (sym phase_here)
         (subst (λ (x : List (Batch (List Value))). RowAt meaning local_is shared_is g (suc p) s.failed Tailing (s.locals (suc p)) (s.built (suc p)) x (upd s.tasks (suc q) None) row) (sym streamed_here) row_at))
         seats_set (stages_set d) rows_set less same
@@ -97,7 +98,7 @@ module _ {O S L : Type 0}
         → Stands meaning local_is shared_is g es infos stages queues rows seats failed count room capacity
         → Brings meaning local_is shared_is (record { given = g; history = es; room = room }) w n (fruit.Close row given)
         → seats' ≡ slice_set seats (w - 1) None
-        → ((d : Stage) → stages1 ≡ slice_set stages (n - 1) (with_less_busy (slice_index_or stages (n - 1) d)))
+        → ((d : Stage) → stages1 ≡ slice_set stages (n - 1) (less_busy (slice_index_or stages (n - 1) d)))
         → ((d : Stage) → stages' ≡ slice_set stages1 (n - 1) (in_phase (slice_index_or stages1 (n - 1) d) Tailing given))
         → rows' ≡ slice_set rows (n - 1) row.items
         → count' ≡ count - 1 → capacity' ≡ capacity
@@ -117,4 +118,4 @@ module _ {O S L : Type 0}
         (close_at es infos stages stages' queues rows rows' row.items seats seats' failed count count' room capacity capacity' (w - 1) p given at.task h f.worker f.flies k f.fruit.0
         (after_landed meaning local_is shared_is g es (suc (w - 1)) (suc p) t f.flies refl f.kept ∙ ap (landed P (state_after P es) (suc (w - 1)) t) f.fruit.0)
         f.fruit.1 f.fruit.2
-        seats_set (written_twice stages stages1 stages' p with_less_busy (λ st. in_phase st Tailing given) within stages1_set stages_set) rows_set less same)
+        seats_set (written_twice stages stages1 stages' p less_busy (λ st. in_phase st Tailing given) within stages1_set stages_set) rows_set less same)

@@ -27,7 +27,7 @@ use Rattle.task_core.specs.declared.stage.NodeInfo.{NodeInfo}
 use Rattle.task_core.specs.declared.stage.Flight.{Flight}
 use Rattle.task_core.specs.Told.{Given, Told, plan_of, site_of}
 use Rattle.task_core.specs.Stored.{PartStands, takes_all, Stands}
-use Rattle.task_core.specs.Delivering.{with_less_busy}
+use Rattle.task_core.specs.Stages.{less_busy}
 use Rattle.task_core.proofs.Growing.{with_most}
 use Rattle.task_core.proofs.Delivering.{peaks, peak_stays}
 use Rattle.task_core.proofs.Landed.{lands, after_landed, put_at}
@@ -43,7 +43,7 @@ module _ {O S L : Type 0}
         → Stands meaning local_is shared_is g es infos stages queues rows seats failed count room capacity
         → BringsAt meaning local_is shared_is (record { given = g; history = es; room = room }) q p (fruit.Fold part) t0
         → seats' ≡ slice_set seats q None
-        → ((d : Stage) → stages' ≡ slice_set stages p (with_less_busy (slice_index_or stages p d)))
+        → ((d : Stage) → stages' ≡ slice_set stages p (less_busy (slice_index_or stages p d)))
         → ((d : List (Option (Share O S L))) → rows' ≡ slice_set rows p (slice_set (slice_index_or rows p d) q (Some (share.Part part))))
         → count' ≡ count - 1 → capacity' ≡ capacity
         → Stands meaning local_is shared_is g (es ++ Deliver (suc q) ∷ []) infos stages' queues rows' seats' failed count' room capacity'
@@ -72,7 +72,7 @@ module _ {O S L : Type 0}
         → Stands meaning local_is shared_is g es infos stages queues rows seats failed count room capacity
         → Brings meaning local_is shared_is (record { given = g; history = es; room = room }) w n (fruit.Fold part)
         → seats' ≡ slice_set seats (w - 1) None
-        → ((d : Stage) → stages' ≡ slice_set stages (n - 1) (with_less_busy (slice_index_or stages (n - 1) d)))
+        → ((d : Stage) → stages' ≡ slice_set stages (n - 1) (less_busy (slice_index_or stages (n - 1) d)))
         → ((d : List (Option (Share O S L))) → rows' ≡ slice_set rows (n - 1) (slice_set (slice_index_or rows (n - 1) d) (w - 1) (Some (share.Part part))))
         → count' ≡ count - 1 → capacity' ≡ capacity
         → Stands meaning local_is shared_is g (es ++ Deliver w ∷ []) infos stages' queues rows' seats' failed count' room capacity'

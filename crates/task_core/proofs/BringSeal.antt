@@ -34,7 +34,8 @@ use Rattle.task_core.specs.declared.stage.NodeInfo.{NodeInfo}
 use Rattle.task_core.specs.declared.stage.Flight.{Flight}
 use Rattle.task_core.specs.Told.{Given, Told, plan_of, site_of}
 use Rattle.task_core.specs.Stored.{Held, InfoIs, StageIs, PartStands, takes_all, Stands}
-use Rattle.task_core.specs.Delivering.{with_less_busy, in_phase}
+use Rattle.task_core.specs.Stages.{less_busy}
+use Rattle.task_core.specs.Delivering.{in_phase}
 use Rattle.task_core.proofs.Held.{some_of}
 use Rattle.task_core.proofs.Known.{known}
 use Rattle.task_core.proofs.Delivering.{site_workers, RowAt, stage_landed, departing}
@@ -91,7 +92,7 @@ module _ {O S L : Type 0}
           → IsCount meaning local_is shared_is (site_of g (suc p)) (site_of g (suc p)).meaning.shape.streams (gathered t0.took) [] given
           → ph ≡ phase_after_seal_of ((plan_of g).node (suc p)).streams ((plan_of g).node (suc p)).tails
           → seats' ≡ slice_set seats q None
-          → ((d : Stage) → stages' ≡ slice_set stages p (in_phase (with_less_busy (slice_index_or stages p d)) ph given))
+          → ((d : Stage) → stages' ≡ slice_set stages p (in_phase (less_busy (slice_index_or stages p d)) ph given))
           → rows' ≡ slice_set rows p row
           → count' ≡ count - 1 → capacity' ≡ capacity
           → Stands meaning local_is shared_is g (es ++ Deliver (suc q) ∷ []) infos stages' queues rows' seats' failed count' room capacity'
@@ -122,7 +123,7 @@ module _ {O S L : Type 0}
               (λ m part lt is_part.
                   let same_workers = site_workers g (suc p) in
                   new_part v (nat_eq (suc p) P.sink) a b (s.locals (suc p) (suc m)) built (s.streamed (suc p)) part (gather_nil P.workers (suc m) (s.locals (suc p)) (omega arith) (omega arith) away.1) none is_part) in
-          let stage_at : StageIs P (suc p) after_seal (s.next (suc p)) built (s.streamed (suc p)) (length (flying P (upd s.tasks (suc q) None) (suc p))) (in_phase (with_less_busy st) ph given) =
+          let stage_at : StageIs P (suc p) after_seal (s.next (suc p)) built (s.streamed (suc p)) (length (flying P (upd s.tasks (suc q) None) (suc p))) (in_phase (less_busy st) ph given) =
               record {
                 is_phase = phase_is;
                 is_next = old.is_next;
@@ -133,11 +134,11 @@ module _ {O S L : Type 0}
                     (ends_in g (suc p) built [] given only.1 (count_is (streams_is g (suc p) ∙ only.0)));
                 busy = old.busy;
               } in
-          whole_at meaning local_is shared_is g es phase' built' s.streamed infos stages stages' queues rows rows' row seats seats' failed count count' room capacity capacity' q p t (in_phase (with_less_busy st) ph given) h worker flies refl
+          whole_at meaning local_is shared_is g es phase' built' s.streamed infos stages stages' queues rows rows' row seats seats' failed count count' room capacity capacity' q p t (in_phase (less_busy st) ph given) h worker flies refl
           is
           (record { phases = λ n ne. upd-else s.phase (suc p) after_seal n ne; lists = λ n ne. refl; builds = λ n ne. upd-else s.built (suc p) built n ne; streams = λ n ne. refl })
-          (subst (λ (x : Phase). StageIs P (suc p) x (s.next (suc p)) (built' (suc p)) (s.streamed (suc p)) (length (flying P (upd s.tasks (suc q) None) (suc p))) (in_phase (with_less_busy st) ph given)) (sym phase_here)
-          (subst (λ (x : List (List Value)). StageIs P (suc p) after_seal (s.next (suc p)) x (s.streamed (suc p)) (length (flying P (upd s.tasks (suc q) None) (suc p))) (in_phase (with_less_busy st) ph given)) (sym built_here) stage_at))
+          (subst (λ (x : Phase). StageIs P (suc p) x (s.next (suc p)) (built' (suc p)) (s.streamed (suc p)) (length (flying P (upd s.tasks (suc q) None) (suc p))) (in_phase (less_busy st) ph given)) (sym phase_here)
+          (subst (λ (x : List (List Value)). StageIs P (suc p) after_seal (s.next (suc p)) x (s.streamed (suc p)) (length (flying P (upd s.tasks (suc q) None) (suc p))) (in_phase (less_busy st) ph given)) (sym built_here) stage_at))
           (subst (λ (x : Phase). RowAt meaning local_is shared_is g (suc p) s.failed x (s.locals (suc p)) (built' (suc p)) (s.streamed (suc p)) (upd s.tasks (suc q) None) row) (sym phase_here)
           (subst (λ (x : List (List Value)). RowAt meaning local_is shared_is g (suc p) s.failed after_seal (s.locals (suc p)) x (s.streamed (suc p)) (upd s.tasks (suc q) None) row) (sym built_here) row_at))
           seats_set (stages_set d) rows_set less same
@@ -159,7 +160,7 @@ module _ {O S L : Type 0}
           → Brings meaning local_is shared_is (record { given = g; history = es; room = room }) w n (fruit.Seal row given)
           → ((d : NodeInfo) → shape ≡ (slice_index_or infos (n - 1) d).shape) → ph ≡ phase_after_seal_of shape.streams shape.tails
           → seats' ≡ slice_set seats (w - 1) None
-          → ((d : Stage) → stages1 ≡ slice_set stages (n - 1) (with_less_busy (slice_index_or stages (n - 1) d)))
+          → ((d : Stage) → stages1 ≡ slice_set stages (n - 1) (less_busy (slice_index_or stages (n - 1) d)))
           → ((d : Stage) → stages' ≡ slice_set stages1 (n - 1) (in_phase (slice_index_or stages1 (n - 1) d) ph given))
           → rows' ≡ slice_set rows (n - 1) row.items
           → count' ≡ count - 1 → capacity' ≡ capacity
@@ -182,4 +183,4 @@ module _ {O S L : Type 0}
           (after_landed meaning local_is shared_is g es (suc (w - 1)) (suc p) t f.flies refl f.kept ∙ ap (landed P (state_after P es) (suc (w - 1)) t) f.fruit.0)
           f.fruit.1 f.fruit.2
           (phase_at infos p ph shape within h.stored.infos_are shape_is ph_is)
-          seats_set (written_twice stages stages1 stages' p with_less_busy (λ st. in_phase st ph given) within' stages1_set stages_set) rows_set less same)
+          seats_set (written_twice stages stages1 stages' p less_busy (λ st. in_phase st ph given) within' stages1_set stages_set) rows_set less same)

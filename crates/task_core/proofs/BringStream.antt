@@ -35,7 +35,8 @@ use Rattle.task_core.specs.declared.stage.NodeInfo.{NodeInfo}
 use Rattle.task_core.specs.declared.stage.Flight.{Flight}
 use Rattle.task_core.specs.Told.{Given, Told, plan_of, site_of}
 use Rattle.task_core.specs.Stored.{Held, InfoIs, QueueIs, PartStands, takes_all, goes_on, Stands}
-use Rattle.task_core.specs.Delivering.{with_less_busy, IsGrown, HasRoom}
+use Rattle.task_core.specs.Stages.{less_busy}
+use Rattle.task_core.specs.Delivering.{IsGrown, HasRoom}
 use Rattle.task_core.proofs.Held.{held_map, some_of}
 use Rattle.task_core.proofs.Delivering.{AllQueues, peaks, peak_stays}
 use Rattle.task_core.proofs.Landed.{Lands, lands, after_landed, put_at}
@@ -174,7 +175,7 @@ module _ {O S L : Type 0}
         → BringsAt meaning local_is shared_is (record { given = g; history = es; room = room }) q p (fruit.Stream part out rest) t0
         → IsNode (plan_of g) (suc p) → streams_from (plan_of g) (suc p) ≡ suc e
         → seats' ≡ slice_set seats q None
-        → ((d : Stage) → stages' ≡ slice_set stages p (with_less_busy (slice_index_or stages p d)))
+        → ((d : Stage) → stages' ≡ slice_set stages p (less_busy (slice_index_or stages p d)))
         → ((d : List (Option (Share O S L))) → rows' ≡ slice_set rows p (slice_set (slice_index_or rows p d) q (Some (share.Part part))))
         → RestPut queues queues1 e rest
         → ((d : Queue) → (q' : Queue) × (queues' ≡ slice_set queues1 p q') × IsGrown (slice_index_or queues1 p d) ((slice_index_or queues1 p d).waiting.items ++ record { batch = out; from = 0 } ∷ []) q')
@@ -265,7 +266,7 @@ module _ {O S L : Type 0}
         → Brings meaning local_is shared_is (record { given = g; history = es; room = room }) w n (fruit.Stream part out rest)
         → ((d : NodeInfo) → edge ≡ (slice_index_or infos (n - 1) d).first)
         → seats' ≡ slice_set seats (w - 1) None
-        → ((d : Stage) → stages' ≡ slice_set stages (n - 1) (with_less_busy (slice_index_or stages (n - 1) d)))
+        → ((d : Stage) → stages' ≡ slice_set stages (n - 1) (less_busy (slice_index_or stages (n - 1) d)))
         → ((d : List (Option (Share O S L))) → rows' ≡ slice_set rows (n - 1) (slice_set (slice_index_or rows (n - 1) d) (w - 1) (Some (share.Part part))))
         → RestPut queues queues1 (edge - 1) rest
         → ((d : Queue) → (q' : Queue) × (queues' ≡ slice_set queues1 (n - 1) q') × IsGrown (slice_index_or queues1 (n - 1) d) ((slice_index_or queues1 (n - 1) d).waiting.items ++ record { batch = out; from = 0 } ∷ []) q')

@@ -30,7 +30,8 @@ use Rattle.task_core.specs.declared.stage.NodeInfo.{NodeInfo}
 use Rattle.task_core.specs.declared.stage.Flight.{Flight}
 use Rattle.task_core.specs.Told.{Given, Told, plan_of, site_of}
 use Rattle.task_core.specs.Stored.{PartStands, takes_all, Stands}
-use Rattle.task_core.specs.Delivering.{with_less_busy, IsGrown, HasRoom}
+use Rattle.task_core.specs.Stages.{less_busy}
+use Rattle.task_core.specs.Delivering.{IsGrown, HasRoom}
 use Rattle.task_core.proofs.Known.{known}
 use Rattle.task_core.proofs.Seated.{seated}
 use Rattle.task_core.proofs.Landed.{Lands, lands, after_landed}
@@ -71,7 +72,7 @@ module _ {O S L : Type 0}
         → BringsAt meaning local_is shared_is (record { given = g; history = es; room = room }) q p (fruit.Tail part out) t0
         → IsNode (plan_of g) (suc p)
         → seats' ≡ slice_set seats q None
-        → ((d : Stage) → stages' ≡ slice_set stages p (with_less_busy (slice_index_or stages p d)))
+        → ((d : Stage) → stages' ≡ slice_set stages p (less_busy (slice_index_or stages p d)))
         → ((d : List (Option (Share O S L))) → rows' ≡ slice_set rows p (slice_set (slice_index_or rows p d) q (Some (share.Part part))))
         → ((d : Queue) → (q' : Queue) × (queues' ≡ slice_set queues p q') × IsGrown (slice_index_or queues p d) ((slice_index_or queues p d).waiting.items ++ record { batch = out; from = 0 } ∷ []) q')
         → count' ≡ count - 1 → capacity' ≡ capacity
@@ -94,7 +95,7 @@ module _ {O S L : Type 0}
         → Stands meaning local_is shared_is g es infos stages queues rows seats failed count room capacity
         → Brings meaning local_is shared_is (record { given = g; history = es; room = room }) w n (fruit.Tail part out)
         → seats' ≡ slice_set seats (w - 1) None
-        → ((d : Stage) → stages' ≡ slice_set stages (n - 1) (with_less_busy (slice_index_or stages (n - 1) d)))
+        → ((d : Stage) → stages' ≡ slice_set stages (n - 1) (less_busy (slice_index_or stages (n - 1) d)))
         → ((d : List (Option (Share O S L))) → rows' ≡ slice_set rows (n - 1) (slice_set (slice_index_or rows (n - 1) d) (w - 1) (Some (share.Part part))))
         → ((d : Queue) → (q' : Queue) × (queues' ≡ slice_set queues (n - 1) q') × IsGrown (slice_index_or queues (n - 1) d) ((slice_index_or queues (n - 1) d).waiting.items ++ record { batch = out; from = 0 } ∷ []) q')
         → count' ≡ count - 1 → capacity' ≡ capacity

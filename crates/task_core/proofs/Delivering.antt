@@ -27,14 +27,15 @@ use Rattle.task_core.specs.declared.stage.NodeInfo.{NodeInfo}
 use Rattle.task_core.specs.declared.stage.Flight.{Flight}
 use Rattle.task_core.specs.Told.{Given, plan_of, site_of}
 use Rattle.task_core.specs.Stored.{Held, StageIs, QueueIs, SeatIs, RowIs, in_flight, is_live, goes_on, Stored, Stands}
-use Rattle.task_core.specs.Delivering.{with_less_busy, IsDeparting}
+use Rattle.task_core.specs.Stages.{less_busy}
+use Rattle.task_core.specs.Delivering.{IsDeparting}
 use Rattle.task_core.proofs.Held.{held_set, held_map, some_of}
 use Rattle.task_core.proofs.Growing.{peak_covers, with_most, standing}
 use Rattle.task_core.proofs.Seated.{Seated, seated}
 use Rattle.task_core.proofs.Landing.{Tasks, seat_left, flying_left, row_left, flight_less, flight_same, stages_landed}
 
 stage_less : (P : MachinePlan (List Value)) (n : ℕ) (phase : Phase) (next : ℕ) (built : List (List Value)) (streamed : List (Batch (List Value))) (k k' : ℕ) (st : Stage)
-    → k ≡ k' + 1 → StageIs P n phase next built streamed k st → StageIs P n phase next built streamed k' (with_less_busy st)
+    → k ≡ k' + 1 → StageIs P n phase next built streamed k st → StageIs P n phase next built streamed k' (less_busy st)
 stage_less P n phase next built streamed k k' st less h =
     record { is_phase = h.is_phase; is_next = h.is_next; emits = h.emits; ends = h.ends; busy = let b = h.busy in omega arith }
 
@@ -120,7 +121,7 @@ module _ {O S L : Type 0}
     pub stage_landed : (s : State (List Value)) (stages : List Stage) (q p : ℕ) (t : Task (List Value)) (d : Stage)
         → IsWorker (plan_of g) (suc q) → s.tasks (suc q) ≡ Some t → t.node ≡ suc p → p < length stages
         → Held (λ n x. StageIs (plan_of g) n (s.phase n) (s.next n) (s.built n) (s.streamed n) (length (flying (plan_of g) s.tasks n)) x) stages
-        → StageIs (plan_of g) (suc p) (s.phase (suc p)) (s.next (suc p)) (s.built (suc p)) (s.streamed (suc p)) (length (flying (plan_of g) (upd s.tasks (suc q) None) (suc p))) (with_less_busy (slice_index_or stages p d))
+        → StageIs (plan_of g) (suc p) (s.phase (suc p)) (s.next (suc p)) (s.built (suc p)) (s.streamed (suc p)) (length (flying (plan_of g) (upd s.tasks (suc q) None) (suc p))) (less_busy (slice_index_or stages p d))
     stage_landed s stages q p t d worker busy here within h =
         stage_less (plan_of g) (suc p) (s.phase (suc p)) (s.next (suc p)) (s.built (suc p)) (s.streamed (suc p)) _ _ (slice_index_or stages p d)
         (flight_less (plan_of g) s.tasks (suc q) (suc p) t worker busy here) (h p d within)
@@ -227,7 +228,7 @@ module _ {O S L : Type 0}
         → IsWorker (plan_of g) (suc q) → (state_after (plan_of g) es).tasks (suc q) ≡ Some t → t.node ≡ suc p
         → ((state_after (plan_of g) es).failed || is_done ((state_after (plan_of g) es).phase (suc p))) ≡ true
         → seats' ≡ slice_set seats q None
-        → ((d : Stage) → stages' ≡ slice_set stages p (with_less_busy (slice_index_or stages p d)))
+        → ((d : Stage) → stages' ≡ slice_set stages p (less_busy (slice_index_or stages p d)))
         → count' ≡ count - 1 → capacity' ≡ capacity
         → Stands meaning local_is shared_is g (es ++ Deliver (suc q) ∷ []) infos stages' queues rows seats' failed count' room capacity'
     drop_at es infos stages stages' queues rows seats seats' failed count count' room capacity capacity' q p t h worker busy here dropped seats_set stages_set less same =
@@ -236,10 +237,10 @@ module _ {O S L : Type 0}
         let within : p < length stages = let place = ready.place in omega arith in
         let d = some_of p stages within in
         subst (λ xs. Stands meaning local_is shared_is g (es ++ Deliver (suc q) ∷ []) infos xs queues rows seats' failed count' room capacity') (sym (stages_set d))
-        (subst (λ xs. Stands meaning local_is shared_is g (es ++ Deliver (suc q) ∷ []) infos (slice_set stages p (with_less_busy (slice_index_or stages p d))) queues rows xs failed count' room capacity') (sym seats_set)
-        (delivered_stands es (suc q) t (record s { tasks = upd s.tasks (suc q) None }) infos stages (slice_set stages p (with_less_busy (slice_index_or stages p d))) queues queues rows rows seats (slice_set seats q None) failed count count' room capacity capacity' h worker busy
+        (subst (λ xs. Stands meaning local_is shared_is g (es ++ Deliver (suc q) ∷ []) infos (slice_set stages p (less_busy (slice_index_or stages p d))) queues rows xs failed count' room capacity') (sym seats_set)
+        (delivered_stands es (suc q) t (record s { tasks = upd s.tasks (suc q) None }) infos stages (slice_set stages p (less_busy (slice_index_or stages p d))) queues queues rows rows seats (slice_set seats q None) failed count count' room capacity capacity' h worker busy
         (after_dropped es (suc q) (suc p) t busy here dropped)
-        (stored_landed s s.phase s.locals s.built s.streamed s.folded s.waiting (peaks es) _ infos stages queues queues rows rows seats failed count count' q p t (with_less_busy (slice_index_or stages p d)) h.stored worker busy here
+        (stored_landed s s.phase s.locals s.built s.streamed s.folded s.waiting (peaks es) _ infos stages queues queues rows rows seats failed count count' q p t (less_busy (slice_index_or stages p d)) h.stored worker busy here
         (record { phases = λ n ne. refl; lists = λ n ne. refl; builds = λ n ne. refl; streams = λ n ne. refl })
         (stage_landed s stages q p t d worker busy here within h.stored.stages_are)
         refl
@@ -256,7 +257,7 @@ module _ {O S L : Type 0}
         → IsWorker (plan_of g) w → (state_after (plan_of g) es).tasks w ≡ Some t → t.node ≡ n
         → ((state_after (plan_of g) es).failed || is_done ((state_after (plan_of g) es).phase n)) ≡ true
         → seats' ≡ slice_set seats (w - 1) None
-        → ((d : Stage) → stages' ≡ slice_set stages (n - 1) (with_less_busy (slice_index_or stages (n - 1) d)))
+        → ((d : Stage) → stages' ≡ slice_set stages (n - 1) (less_busy (slice_index_or stages (n - 1) d)))
         → count' ≡ count - 1 → capacity' ≡ capacity
         → Stands meaning local_is shared_is g (es ++ Deliver w ∷ []) infos stages' queues rows seats' failed count' room capacity'
     after_drop es infos stages stages' queues rows seats seats' failed count count' room capacity capacity' w n t h worker busy here dropped seats_set stages_set less same =

@@ -28,7 +28,8 @@ use Rattle.task_core.specs.declared.stage.NodeInfo.{NodeInfo}
 use Rattle.task_core.specs.declared.stage.Flight.{Flight}
 use Rattle.task_core.specs.Told.{Given, plan_of, site_of}
 use Rattle.task_core.specs.Stored.{PartStands, IsWaiting, takes_all, goes_on, Stands}
-use Rattle.task_core.specs.Delivering.{with_less_busy, IsGrown, HasRoom}
+use Rattle.task_core.specs.Stages.{less_busy}
+use Rattle.task_core.specs.Delivering.{IsGrown, HasRoom}
 use Rattle.task_core.proofs.Held.{some_of}
 use Rattle.task_core.proofs.Known.{known}
 use Rattle.task_core.proofs.Delivering.{peaks, peak_stays}
@@ -91,7 +92,7 @@ module _ {O S L : Type 0}
         → out.kinds ≡ (site_of g (suc p)).columns → item out 0 ≡ b
         → PartStands meaning local_is shared_is (site_of g (suc p)) (nat_eq (suc p) (plan_of g).sink) (phase_of t.job) ((state_after (plan_of g) es).locals (suc p) (suc q)) t.built t.streamed share
         → seats' ≡ slice_set seats q None
-        → ((d : Stage) → stages' ≡ slice_set stages p (with_less_busy (slice_index_or stages p d)))
+        → ((d : Stage) → stages' ≡ slice_set stages p (less_busy (slice_index_or stages p d)))
         → ((d : List (Option (Share O S L))) → rows' ≡ slice_set rows p (slice_set (slice_index_or rows p d) q (Some share)))
         → ((d : Queue) → (q' : Queue) × (queues' ≡ slice_set queues p q') × IsGrown (slice_index_or queues p d) ((slice_index_or queues p d).waiting.items ++ record { batch = out; from = 0 } ∷ []) q')
         → count' ≡ count - 1 → capacity' ≡ capacity

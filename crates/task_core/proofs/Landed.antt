@@ -28,7 +28,8 @@ use Rattle.task_core.specs.declared.stage.Flight.{Flight}
 use Rattle.task_core.specs.Told.{Given, plan_of, site_of}
 use Rattle.task_core.specs.Known.{Known}
 use Rattle.task_core.specs.Stored.{Held, RowIs, PartStands, is_live, takes_all, AllAway, Stored, Stands}
-use Rattle.task_core.specs.Delivering.{with_less_busy, HasSeat}
+use Rattle.task_core.specs.Stages.{less_busy}
+use Rattle.task_core.specs.Delivering.{HasSeat}
 use Rattle.task_core.proofs.Held.{some_of}
 use Rattle.task_core.proofs.Known.{known}
 use Rattle.task_core.proofs.Seated.{seated}
@@ -191,7 +192,7 @@ module _ {O S L : Type 0}
         → PartStands meaning local_is shared_is (site_of g (suc p)) (nat_eq (suc p) (plan_of g).sink) (phase_of t.job) (locals (suc p) (suc q)) t.built t.streamed share
         → length queues' ≡ length queues → AllQueues meaning local_is shared_is g waiting (state_after (plan_of g) es).paused (λ e. max (peaks meaning local_is shared_is g es e) (length (waiting e))) queues'
         → seats' ≡ slice_set seats q None
-        → ((d : Stage) → stages' ≡ slice_set stages p (with_less_busy (slice_index_or stages p d)))
+        → ((d : Stage) → stages' ≡ slice_set stages p (less_busy (slice_index_or stages p d)))
         → ((d : List (Option (Share O S L))) → rows' ≡ slice_set rows p (slice_set (slice_index_or rows p d) q (Some share)))
         → count' ≡ count - 1 → capacity' ≡ capacity
         → Stands meaning local_is shared_is g (es ++ Deliver (suc q) ∷ []) infos stages' queues' rows' seats' failed count' room capacity'
@@ -202,7 +203,7 @@ module _ {O S L : Type 0}
         let within_rows : p < length rows = let a = h.stored.all_rows in let b = h.stored.all_stages in omega arith in
         let d = some_of p stages within in
         let e = some_of p rows within_rows in
-        let st' : Stage = with_less_busy (slice_index_or stages p d) in
+        let st' : Stage = less_busy (slice_index_or stages p d) in
         let row : List (Option (Share O S L)) = slice_index_or rows p e in
         let row' : List (Option (Share O S L)) = slice_set row q (Some share) in
         let full = full_at es infos stages queues rows seats failed count room capacity (suc q) p t e h worker busy here within_rows k own in

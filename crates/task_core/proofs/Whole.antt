@@ -26,7 +26,8 @@ use Rattle.task_core.specs.declared.stage.NodeInfo.{NodeInfo}
 use Rattle.task_core.specs.declared.stage.Flight.{Flight}
 use Rattle.task_core.specs.Told.{Given, plan_of, site_of}
 use Rattle.task_core.specs.Stored.{Held, StageIs, RowIs, PartStands, SlotStands, Stored, Stands}
-use Rattle.task_core.specs.Delivering.{with_less_busy, in_phase}
+use Rattle.task_core.specs.Stages.{less_busy}
+use Rattle.task_core.specs.Delivering.{in_phase}
 use Rattle.task_core.proofs.Growing.{with_most}
 use Rattle.task_core.proofs.Landing.{Tasks}
 use Rattle.task_core.proofs.Delivering.{RowAt, Others, peaks, peak_stays, rows_landed, stored_landed, departing, delivered_stands}

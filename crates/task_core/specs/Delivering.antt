@@ -22,9 +22,6 @@ pub record IsFlying (told : Told) (worker node : ℕ) : Type 0 where
 abbrev pub is_dropped : Told → ℕ → Bool
 is_dropped told node = (state_of told).failed || is_done ((state_of told).phase node)
 
-abbrev pub with_less_busy : Stage → Stage
-with_less_busy st = record st { busy = st.busy - 1 }
-
 -- The queue holds these batches now, one more than it held, in as much room.
 pub record IsGrown (old : Queue) (items : List Waiting) (q : Queue) : Type 0 where
   pub items_are : q.waiting.items ≡ items

@@ -8,7 +8,7 @@ ghost use Rattle.task_core.specs.Told.{plan_of, state_of, with_entry};
 ghost use Rattle.task_core.specs.Calls.{IsDue};
 ghost use Rattle.task_core.specs.Delivering.{IsFlying, is_dropped};
 
-use crate::putting::{begin_phase, depart, first_input, is_over, put_back, put_rest, put_row, put_share, shape_at};
+use crate::putting::{begin_phase, depart, first_input, has_ended, put_back, put_rest, put_row, put_share, shape_at};
 use crate::state::PlanState;
 use column_batch::Batch;
 use plan_machine::{Phase, phase_after_seal};
@@ -47,7 +47,7 @@ impl<O: Operator> PlanState<O> {
         ensures { result ≡ is_dropped self.now node }
     {
         let _room = self.room;
-        self.failed || is_over(self.stages[(node - 1) as usize].phase)
+        self.failed || has_ended(self.stages[(node - 1) as usize].phase)
     }
 
     /// Drops a delivery.

@@ -8,7 +8,8 @@ ghost use Rattle.task_core.specs.declared.stage.NodeInfo.{NodeInfo};
 ghost use Rattle.task_work.specs.declared.work.Waiting.{Waiting};
 ghost use Rattle.plan_machine.specs.After.{is_done};
 ghost use Rattle.plan_machine.specs.declared.entry.Entry.TheVariants as EntryOf;
-ghost use Rattle.task_core.specs.Delivering.{with_less_busy, in_phase, IsGrown, IsDeparting, HasPlace, HasSeat, HasRoom};
+ghost use Rattle.task_core.specs.Stages.{less_busy};
+ghost use Rattle.task_core.specs.Delivering.{in_phase, IsGrown, IsDeparting, HasPlace, HasSeat, HasRoom};
 
 use crate::queue::Queue;
 use crate::stage::{Flight, NodeInfo, Stage};
@@ -16,7 +17,7 @@ use plan_machine::{Entry, OpShape, Phase};
 use task_work::{Share, Waiting};
 
 /// Whether a node has ended.
-pub fn is_over(phase: Phase) -> bool
+pub fn has_ended(phase: Phase) -> bool
     ensures { result ≡ is_done phase }
 {
     match phase {
@@ -36,7 +37,7 @@ pub fn depart(
 )
     requires { IsDeparting seats.old.items stages.old.items flying.old (length history.old.items) (vec_capacity history.old) worker node }
     ensures seats { seats.new.items ≡ slice_set seats.old.items (worker - 1) None }
-    ensures stages { (d : Stage) → stages.new.items ≡ slice_set stages.old.items (node - 1) (with_less_busy (slice_index_or stages.old.items (node - 1) d)) }
+    ensures stages { (d : Stage) → stages.new.items ≡ slice_set stages.old.items (node - 1) (less_busy (slice_index_or stages.old.items (node - 1) d)) }
     ensures history { history.new.items ≡ history.old.items ++ EntryOf.Deliver worker ∷ [] }
     ensures capacity { vec_capacity history.new ≡ vec_capacity history.old }
     ensures flying { flying.new ≡ flying.old - 1 }

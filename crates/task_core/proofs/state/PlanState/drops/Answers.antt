@@ -31,5 +31,5 @@ returns-else-self g c =
     let st = c.index.result.now in
     let phase = ap (λ (x : Stage). x.phase) c.index.ensures ∙ by.2 st in
     let sound = sym c.self.invariant.stored.failed_is ∙ c.if-self.false in
-    subst (λ t. c.is_over.result ≡ is_dropped t c.args.node) c.self.view_is
-    (c.is_over.ensures ∙ ap is_done phase ∙ sym (ap (λ (b : Bool). b || is_done ((state_of (record { given = given_by p.plan.nodes p.sources p.setting; history = p.history.items; room = p.room })).phase c.args.node)) sound))
+    subst (λ t. c.has_ended.result ≡ is_dropped t c.args.node) c.self.view_is
+    (c.has_ended.ensures ∙ ap is_done phase ∙ sym (ap (λ (b : Bool). b || is_done ((state_of (record { given = given_by p.plan.nodes p.sources p.setting; history = p.history.items; room = p.room })).phase c.args.node)) sound))
