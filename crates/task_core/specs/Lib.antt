@@ -3,6 +3,7 @@ pub mod Stored
 pub mod Queues
 pub mod Stages
 pub mod Choosing
+pub mod Claiming
 pub mod Calls
 pub mod Known
 pub mod Opening

@@ -8,6 +8,7 @@ mod result;
 mod setting;
 mod stage;
 mod state;
+mod taking;
 mod upkeep;
 
 pub use result::Finished;
