@@ -8,3 +8,4 @@ pub mod Seated
 pub mod Resuming
 pub mod Finishing
 pub mod Leaving
+pub mod Rows
