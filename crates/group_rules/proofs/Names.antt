@@ -1,13 +1,12 @@
 -- Names that are each taken once, and the first of distinct names.
 use Prim.Native.Nat.{zero}
-use Rattle.std.proofs.Common.{◌≡◌, ℕ, suc, Bool, true, false, ◌&&◌, ◌||◌, not, cond, List, [], ◌∷◌, ◌++◌, take, filter, append-nil, length, get_or, add-one, ◌+◌, ◌<◌, refl, sym, ◌∙◌, ap, ap₂, subst}
+use Rattle.std.proofs.Common.{◌≡◌, ℕ, suc, Bool, true, false, ◌&&◌, ◌||◌, not, cond, List, [], ◌∷◌, ◌++◌, take, filter, append-nil, length, get_or, add-one, ◌+◌, ◌<◌, refl, sym, ◌∙◌, ap, subst}
 use Rattle.std.proofs.Math.Seq.{take-suc}
 use Rattle.std.specs.Str.{bytes_eq}
 use Rattle.std.proofs.lemmas.Slice.Eq.{bytes_eq-Decides}
 use Rattle.row_table.specs.Tables.{among_texts}
-use Rattle.group_rules.specs.declared.groups.Dropping.{Dropping}
 use Rattle.group_rules.specs.declared.groups.Dropping.TheVariants.{DropLast, Drop, Keep}
-use Rattle.group_rules.specs.Groups.{summarised_groups, each_once, are_distinct}
+use Rattle.group_rules.specs.Groups.{each_once, are_distinct}
 use Rattle.group_rules.specs.GroupLaws.{OnceAmong, OnceDistinct, OnceItself, SummarisedDistinct}
 
 -- the names but this one

@@ -1,5 +1,5 @@
 -- The grouping columns of a table after a verb. A group is the name of its column.
-use Rattle.std.specs.Prelude.{ℕ, ◌-◌, Bool, true, false, ◌&&◌, not, if◌then◌else◌, List, [], ◌∷◌, length, take, map, filter, Result, Ok, Err}
+use Rattle.std.specs.Prelude.{ℕ, ◌-◌, Bool, true, ◌&&◌, not, if◌then◌else◌, List, [], ◌∷◌, length, take, map, filter, Result, Ok, Err}
 use Rattle.std.specs.Str.{bytes_eq}
 use Rattle.row_table.specs.Tables.{among_texts}
 use Rattle.group_rules.specs.declared.groups.Dropping.{Dropping}

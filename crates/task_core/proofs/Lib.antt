@@ -9,3 +9,6 @@ pub mod Resuming
 pub mod Finishing
 pub mod Leaving
 pub mod Rows
+pub mod Landing
+pub mod Rows
+pub mod Delivering

@@ -6,4 +6,5 @@ pub mod Choosing
 pub mod Claiming
 pub mod Calls
 pub mod Known
+pub mod Delivering
 pub mod Opening

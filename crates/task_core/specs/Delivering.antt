@@ -1,0 +1,41 @@
+-- What deliveries ask for, and what the calls on parts of a plan's state leave.
+use Rattle.std.specs.Prelude.{◌≡◌, ℕ, ◌-◌, ◌<◌, ◌≤◌, Bool, ◌||◌, List, length, Option, Some, slice_index_or}
+use Rattle.std.specs.VecDeque.{deque_capacity}
+use Rattle.scalar_value.specs.declared.value.Value.{Value}
+use Rattle.backpressure.specs.Edges.{with_one_more}
+use Rattle.plan_machine.specs.State.{Task as MachineTask}
+use Rattle.plan_machine.specs.After.{is_done}
+use Rattle.task_work.specs.declared.work.Waiting.{Waiting}
+use Rattle.task_core.specs.declared.queue.Queue.{Queue}
+use Rattle.task_core.specs.declared.stage.Stage.{Stage}
+use Rattle.task_core.specs.declared.stage.Flight.{Flight}
+use Rattle.task_core.specs.Told.{Told, state_of}
+
+-- the worker's task in flight stands at this node
+pub record IsFlying (told : Told) (worker node : ℕ) : Type 0 where
+  pub task : MachineTask (List Value)
+  pub flies : (state_of told).tasks worker ≡ Some task
+  pub at_node : task.node ≡ node
+
+-- A delivery is dropped where the run failed, or where its node was stopped.
+abbrev pub is_dropped : Told → ℕ → Bool
+is_dropped told node = (state_of told).failed || is_done ((state_of told).phase node)
+
+abbrev pub with_less_busy : Stage → Stage
+with_less_busy st = record st { busy = st.busy - 1 }
+
+-- The queue holds these batches now, one more than it held, in as much room.
+pub record IsGrown (old : Queue) (items : List Waiting) (q : Queue) : Type 0 where
+  pub items_are : q.waiting.items ≡ items
+  pub room : deque_capacity q.waiting ≡ deque_capacity old.waiting
+  pub edge : q.edge ≡ with_one_more old.edge
+
+-- what there is of a task that departs: its worker's seat, its node's stage and count, and the place of its delivery
+pub record IsDeparting (seats : List (Option Flight)) (stages : List Stage) (flying entries capacity worker node : ℕ) : Type 0 where
+  pub workers : 1 ≤ worker
+  pub nodes : 1 ≤ node
+  pub seat : worker - 1 < length seats
+  pub place : node - 1 < length stages
+  pub busy : (d : Stage) → 0 < (slice_index_or stages (node - 1) d).busy
+  pub flies : 0 < flying
+  pub room : entries < capacity
