@@ -10,5 +10,6 @@ pub mod Finishing
 pub mod Leaving
 pub mod Rows
 pub mod Landing
-pub mod Rows
 pub mod Delivering
+pub mod Entering
+pub mod Claiming
