@@ -148,7 +148,7 @@ queue_less columns may places waiting paused most q q' first cut h =
       is_peak = ap (λ x. x.peak) cut.edge ∙ h.is_peak;
     }
 
-oldest : (columns : List ColType) (may : Bool) (places : ℕ) (waiting : List (Batch (List Value))) (paused : Bool) (most : ℕ) (q q' : Queue) (first : Waiting)
+pub oldest : (columns : List ColType) (may : Bool) (places : ℕ) (waiting : List (Batch (List Value))) (paused : Bool) (most : ℕ) (q q' : Queue) (first : Waiting)
     → IsShortened q first q' → QueueIs columns may places waiting paused most q
     → (waiting_item first ≡ at_or blank 0 waiting) × IsWaiting columns may first
 oldest columns may places waiting paused most q q' first cut h =
@@ -190,7 +190,7 @@ all_no_next Stream e = cc
 all_no_next Close e = refl
 all_no_next Tail e = cc
 
-idle_at : (P : MachinePlan (List Value)) (s : State (List Value)) (n : ℕ) (job : Job) (k : ℕ) → takes_all job ≡ true → CanDo P s n job k → tasks_at P s n ≡ []
+pub idle_at : (P : MachinePlan (List Value)) (s : State (List Value)) (n : ℕ) (job : Job) (k : ℕ) → takes_all job ≡ true → CanDo P s n job k → tasks_at P s n ≡ []
 idle_at P s n Emit k e can = cc
 idle_at P s n Fold k e can = cc
 idle_at P s n Seal k e can = can.1
@@ -270,8 +270,8 @@ module _ {O S L : Type 0}
         next_low Tail c e d = let st = stage_at d in let a = st.is_next in let b = st.ends c.0 in let x = c.1 in let y = c.2 in omega arith
 
         -- there is a seat, and the counts stay small
-        pub entering_at : (number : ℕ) (d : Stage) → capacity < 2 ^ 64 → 2 ≤ room → (1 ≤ suc q) × (suc q ≤ length seats) × (1 ≤ suc p) × (suc p ≤ length stages) × ((slice_index_or stages p d).busy < 2 ^ 32 - 1) × (gives_next job ≡ true → (slice_index_or stages p d).next < (slice_index_or stages p d).count) × (length es < capacity) × (flying < 2 ^ 64 - 1)
-        entering_at number d small two =
+        pub entering_at : (d : Stage) → 2 ≤ room → (1 ≤ suc q) × (suc q ≤ length seats) × (1 ≤ suc p) × (suc p ≤ length stages) × ((slice_index_or stages p d).busy < 2 ^ 32 - 1) × (gives_next job ≡ true → (slice_index_or stages p d).next < (slice_index_or stages p d).count) × (length es < capacity) × (flying < 2 ^ 64 - 1)
+        entering_at d two =
             let P = plan_of g in
             let s = state_after P es in
             let all = h.stored.all_seats in
@@ -283,6 +283,8 @@ module _ {O S L : Type 0}
             let f = few P s.tasks (suc p) P.workers in
             let most = h.sizes.workers.1 in
             let fits = h.fits in
+            let fly = sum_ones P.workers (λ v. in_flight (s.tasks v)) (λ v. in_flight_one (s.tasks v)) in
+            let counted = h.stored.flying_is in
             (omega arith, omega arith, omega arith, omega arith, omega arith, (λ e. next_low job can.1 e d), omega arith, omega arith)
 
         -- the state after the claim, where fewer batches wait or as many

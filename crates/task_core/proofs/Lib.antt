@@ -13,3 +13,4 @@ pub mod Landing
 pub mod Delivering
 pub mod Entering
 pub mod Claiming
+pub mod Claimed

@@ -31,7 +31,7 @@ fn job_of(stage: &Stage, tails: bool, paused: bool, waits: bool, ended: bool) ->
 }
 
 /// The input that a node reads in this phase; in a phase that reads none, the node itself.
-fn input_of(phase: Phase, info: &NodeInfo, node: u32) -> u32
+pub fn input_of(phase: Phase, info: &NodeInfo, node: u32) -> u32
     ensures { result ≡ input_by phase info.now.shape.streams info.now.first info.now.second node }
 {
     match phase {

@@ -3,6 +3,7 @@
 
 mod failing;
 mod choice;
+mod claim;
 mod putting;
 mod queue;
 mod result;
