@@ -14,3 +14,4 @@ pub mod Delivering
 pub mod Entering
 pub mod Claiming
 pub mod Claimed
+pub mod Working

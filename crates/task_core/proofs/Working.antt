@@ -1,5 +1,5 @@
 -- What a claim took is the work of its task.
-use Rattle.std.proofs.Common.{◌≡◌, ◌≢◌, ℕ, zero, suc, ◌+◌, ◌-◌, ◌<◌, ◌≤◌, Bool, true, false, cond, ◌&&◌, nat_eq, List, [], ◌∷◌, ◌++◌, length, map, Option, Some, None, refl, sym, ap, subst, ◌∙◌, ◌⊎◌, inl, inr, arith, append_assoc, slice_index_or}
+use Rattle.std.proofs.Common.{◌≡◌, ◌≢◌, ℕ, zero, suc, ◌+◌, ◌-◌, ◌<◌, ◌≤◌, Bool, true, false, cond, ◌&&◌, nat_eq, List, [], ◌∷◌, ◌++◌, length, map, Option, Some, None, refl, sym, ap, subst, ◌∙◌, ◌⊎◌, inl, inr, arith, append_assoc, append-nil, eqb-true, slice_index_or}
 use Rattle.std.specs.declared.alloc.Global.{Global}
 use Rattle.std.specs.declared.sync.Arc.{Arc}
 use Rattle.scalar_value.specs.declared.value.Value.{Value}
@@ -20,7 +20,7 @@ use Rattle.plan_machine.specs.Plan.{Plan as MachinePlan, IsNode, IsWorker, Folds
 use Rattle.plan_machine.specs.State.{State, Task, tail_rows, opening}
 use Rattle.plan_machine.specs.Enabled.{Enabled, CanDo, Ready}
 use Rattle.plan_machine.specs.After.{after, claimed, task_of}
-use Rattle.plan_machine.specs.History.{state_after}
+use Rattle.plan_machine.specs.History.{state_after, IsHistory}
 use Rattle.plan_machine.specs.WellFormed.{Lawful, WellFormed, Streams}
 use Rattle.plan_machine.proofs.DriverHistory.{grows}
 use Rattle.plan_machine.proofs.Weigh.{upd-here}
@@ -43,6 +43,7 @@ use Rattle.task_work.specs.Work.{IsTable, IsShared, IsPart, IsPartOf, IsRow, IsF
 use Rattle.task_core.specs.Told.{Given, Told, plan_of, state_of, site_of, with_entry}
 use Rattle.task_core.specs.Stored.{PartStands, IsWaiting, waiting_item, goes_on}
 use Rattle.task_core.specs.Claiming.{reads_from, IsShareOf, IsRowOf, IsOldest, IsWorkOf}
+use Rattle.task_core.proofs.Choosing.{and_left, and_right}
 use Rattle.task_core.proofs.Known.{known}
 use Rattle.task_core.proofs.Delivering.{site_workers}
 
@@ -145,8 +146,8 @@ lists_from f j (suc n) = f (suc j) ∷ lists_from f (suc j) n
 
 flat_lists : {A : Type 0} (f : ℕ → List A) (j n : ℕ) → gather (j + n) f ≡ gather j f ++ flat (lists_from f j n)
 unfolding lists_from
-flat_lists f j zero = ?
-flat_lists f j (suc n) = ?
+flat_lists f j zero = (let e : j + 0 ≡ j = omega arith in ap (λ m. gather m f) e) ∙ sym (append-nil (gather j f))
+flat_lists f j (suc n) = (let e : j + suc n ≡ suc j + n = omega arith in ap (λ m. gather m f) e) ∙ (flat_lists f (suc j) n ∙ append_assoc (gather j f) (f (suc j)) (flat (lists_from f (suc j) n)))
 
 each_list : {A B : Type 0} (R : A → List B → Type 0) (f : ℕ → List B) (d : A) (row : List A) (j : ℕ) → ((k : ℕ) → k < length row → R (slice_index_or row k d) (f (suc (j + k)))) → Each R row (lists_from f j (length row))
 unfolding lists_from
@@ -156,3 +157,167 @@ each_list R f d (x ∷ xs) j h =
       subst (λ m. R x (f (suc m))) (let e : j + 0 ≡ j = omega arith in e) (h 0 (omega arith)),
       each_list R f d xs (suc j) (λ k lt. subst (λ m. R (slice_index_or xs k d) (f (suc m))) (let e : j + suc k ≡ suc j + k = omega arith in e) (h (suc k) (omega arith)))
     )
+
+true_or_false : (b : Bool) → (b ≡ true) ⊎ (b ≡ false)
+true_or_false true = inl refl
+true_or_false false = inr refl
+
+module _ {O S L : Type 0}
+    (meaning : O → OpMeaning)
+    (local_is : OpMeaning → List ColType → L → List (Batch (List Value)) → Type 0)
+    (shared_is : OpMeaning → List (List ColType) → S → List (List Value) → List (Batch (List Value)) → Type 0)
+    (told : Told)
+    (planned : IsPlan told.given.nodes)
+    (well : WellFormed (plan_of told.given))
+    (lawful : Lawful (plan_of told.given))
+    (legal : IsHistory (plan_of told.given) told.history)
+  where
+    -- ---- the share that a claim took
+
+    table_at : (v : Site) (last : Bool) (taken : List (Batch (List Value))) (built : List (List Value)) (streamed : List (Batch (List Value))) (x : Share O S L)
+        → PartStands meaning local_is shared_is v last Emitting taken built streamed x
+        → (t : Arc TableValue Global) × (x ≡ share.Table t) × IsTable meaning local_is shared_is v t
+    table_at v last taken built streamed (share.Table t) h = (t, refl, h)
+    table_at v last taken built streamed (share.Part p) h = absurd h
+
+    folded_at : (v : Site) (last : Bool) (taken : List (Batch (List Value))) (built : List (List Value)) (streamed : List (Batch (List Value))) (x : Share O S L)
+        → PartStands meaning local_is shared_is v last Folding taken built streamed x
+        → (p : Part O S L) × (x ≡ share.Part p) × IsPart meaning local_is shared_is v (folded_of v.meaning v.inputs) taken built [] p
+    folded_at v last taken built streamed (share.Table t) h = absurd h
+    folded_at v last taken built streamed (share.Part p) h = (p, refl, h)
+
+    streamed_at : (v : Site) (last : Bool) (taken : List (Batch (List Value))) (built : List (List Value)) (streamed : List (Batch (List Value))) (x : Share O S L)
+        → PartStands meaning local_is shared_is v last Streaming taken built streamed x
+        → (p : Part O S L) × (x ≡ share.Part p) × IsPart meaning local_is shared_is v (first_of v.inputs) taken built [] p
+    streamed_at v last taken built streamed (share.Table t) h = absurd h
+    streamed_at v last taken built streamed (share.Part p) h = (p, refl, h)
+
+    tailed_at : (v : Site) (last : Bool) (taken : List (Batch (List Value))) (built : List (List Value)) (streamed : List (Batch (List Value))) (x : Share O S L)
+        → PartStands meaning local_is shared_is v last Tailing taken built streamed x
+        → (p : Part O S L) × (x ≡ share.Part p) × IsShared meaning local_is shared_is v built streamed p
+    tailed_at v last taken built streamed (share.Table t) h = absurd h
+    tailed_at v last taken built streamed (share.Part p) h = (p, refl, h)
+
+    module _ (w n : ℕ) where
+      stands_in : (phase : Phase) → (state_of told).phase n ≡ phase → (slot : Option (Share O S L)) → IsShareOf meaning local_is shared_is told w n slot
+          → (x : Share O S L) × (slot ≡ Some x) × PartStands meaning local_is shared_is (site_of told.given n) (nat_eq n (plan_of told.given).sink) phase ((state_of told).locals n w) ((state_of told).built n) ((state_of told).streamed n) x
+      stands_in phase at slot h =
+          let s = state_of told in
+          (h.0, h.1, subst (λ q. PartStands meaning local_is shared_is (site_of told.given n) (nat_eq n (plan_of told.given).sink) q (s.locals n w) (s.built n) (s.streamed n) h.0) at h.2)
+
+      pub table_there : (state_of told).phase n ≡ Emitting → (slot : Option (Share O S L)) → IsShareOf meaning local_is shared_is told w n slot
+          → (t : Arc TableValue Global) × (slot ≡ Some (share.Table t)) × IsTable meaning local_is shared_is (site_of told.given n) t
+      table_there at slot h =
+          let s = state_of told in
+          let x = stands_in Emitting at slot h in
+          let y = table_at (site_of told.given n) (nat_eq n (plan_of told.given).sink) (s.locals n w) (s.built n) (s.streamed n) x.0 x.2 in
+          (y.0, x.1 ∙ ap Some y.1, y.2)
+
+      pub folded_there : (state_of told).phase n ≡ Folding → (slot : Option (Share O S L)) → IsShareOf meaning local_is shared_is told w n slot
+          → (p : Part O S L) × (slot ≡ Some (share.Part p)) × IsPart meaning local_is shared_is (site_of told.given n) (folded_of (site_of told.given n).meaning (site_of told.given n).inputs) ((state_of told).locals n w) ((state_of told).built n) [] p
+      folded_there at slot h =
+          let s = state_of told in
+          let x = stands_in Folding at slot h in
+          let y = folded_at (site_of told.given n) (nat_eq n (plan_of told.given).sink) (s.locals n w) (s.built n) (s.streamed n) x.0 x.2 in
+          (y.0, x.1 ∙ ap Some y.1, y.2)
+
+      pub streamed_there : (state_of told).phase n ≡ Streaming → (slot : Option (Share O S L)) → IsShareOf meaning local_is shared_is told w n slot
+          → (p : Part O S L) × (slot ≡ Some (share.Part p)) × IsPart meaning local_is shared_is (site_of told.given n) (first_of (site_of told.given n).inputs) ((state_of told).locals n w) ((state_of told).built n) [] p
+      streamed_there at slot h =
+          let s = state_of told in
+          let x = stands_in Streaming at slot h in
+          let y = streamed_at (site_of told.given n) (nat_eq n (plan_of told.given).sink) (s.locals n w) (s.built n) (s.streamed n) x.0 x.2 in
+          (y.0, x.1 ∙ ap Some y.1, y.2)
+
+      pub tailed_there : (state_of told).phase n ≡ Tailing → (slot : Option (Share O S L)) → IsShareOf meaning local_is shared_is told w n slot
+          → (p : Part O S L) × (slot ≡ Some (share.Part p)) × IsShared meaning local_is shared_is (site_of told.given n) ((state_of told).built n) ((state_of told).streamed n) p
+      tailed_there at slot h =
+          let s = state_of told in
+          let x = stands_in Tailing at slot h in
+          let y = tailed_at (site_of told.given n) (nat_eq n (plan_of told.given).sink) (s.locals n w) (s.built n) (s.streamed n) x.0 x.2 in
+          (y.0, x.1 ∙ ap Some y.1, y.2)
+
+    -- ---- the shares of all
+
+    folded_part : (n k : ℕ) (slot : Option (Share O S L)) → (state_of told).phase n ≡ Folding → IsShareOf meaning local_is shared_is told k n slot
+        → IsPartOf meaning local_is shared_is (site_of told.given n) (folded_of (site_of told.given n).meaning (site_of told.given n).inputs) ((state_of told).built n) [] slot ((state_of told).locals n k)
+    folded_part n k slot at h =
+        let x = folded_there k n at slot h in
+        subst (λ o. IsPartOf meaning local_is shared_is (site_of told.given n) (folded_of (site_of told.given n).meaning (site_of told.given n).inputs) ((state_of told).built n) [] o ((state_of told).locals n k)) (sym x.1) x.2
+
+    streamed_part : (n k : ℕ) (slot : Option (Share O S L)) → (state_of told).phase n ≡ Streaming → IsShareOf meaning local_is shared_is told k n slot
+        → IsPartOf meaning local_is shared_is (site_of told.given n) (first_of (site_of told.given n).inputs) ((state_of told).built n) [] slot ((state_of told).locals n k)
+    streamed_part n k slot at h =
+        let x = streamed_there k n at slot h in
+        subst (λ o. IsPartOf meaning local_is shared_is (site_of told.given n) (first_of (site_of told.given n).inputs) ((state_of told).built n) [] o ((state_of told).locals n k)) (sym x.1) x.2
+
+    row_is : (n : ℕ) (kinds : List ColType) (row : List (Option (Share O S L)))
+        → IsRowOf meaning local_is shared_is told n row
+        → ((k : ℕ) (slot : Option (Share O S L)) → IsShareOf meaning local_is shared_is told k n slot → IsPartOf meaning local_is shared_is (site_of told.given n) kinds ((state_of told).built n) [] slot ((state_of told).locals n k))
+        → IsRow meaning local_is shared_is (site_of told.given n) kinds (gather (plan_of told.given).workers ((state_of told).locals n)) ((state_of told).built n) [] row
+    row_is n kinds row h part =
+        let P = plan_of told.given in
+        let f = (state_of told).locals n in
+        record {
+          lists = lists_from f 0 (length row);
+          parts = each_list (IsPartOf meaning local_is shared_is (site_of told.given n) kinds ((state_of told).built n) []) f None row 0
+            (λ k lt.
+                let size = h.size in
+                subst (λ m. IsPartOf meaning local_is shared_is (site_of told.given n) kinds ((state_of told).built n) [] (slice_index_or row k None) (f (suc m))) (let e : k ≡ 0 + k = omega arith in e)
+                (part (suc k) (slice_index_or row k None) (h.each k (omega arith))));
+          all =
+              let flats : gather (0 + length row) f ≡ flat (lists_from f 0 (length row)) = flat_lists f 0 (length row) in
+              sym flats ∙ (let size = h.size in let e : 0 + length row ≡ P.workers = omega arith in ap (λ m. gather m f) e);
+          workers = h.size ∙ sym (site_workers told.given n);
+        }
+
+    -- ---- the task of a claim
+
+    flies : (w n k : ℕ) (j : Job) (t : Task (List Value)) → (claimed (plan_of told.given) (state_of told) w n j k).tasks ≡ upd (state_of told).tasks w (Some t)
+        → (state_of (with_entry told (Claim w n j k) 2)).tasks w ≡ Some t
+    unfolding after
+    flies w n k j t e =
+        let P = plan_of told.given in
+        ap (λ (z : State (List Value)). z.tasks w) (grows P told.history (Claim w n j k) (opening P)).state
+        ∙ (ap (λ (f : ℕ → Option (Task (List Value))). f w) e ∙ upd-here (state_of told).tasks w (Some t))
+
+    pub emit_work : (w n k : ℕ) → Enabled (plan_of told.given) (state_of told) (Claim w n job.Emit k)
+        → (slot : Option (Share O S L)) (table : Arc TableValue Global) → slot ≡ Some (share.Table table)
+        → IsShareOf meaning local_is shared_is told w n slot
+        → IsWorkOf meaning local_is shared_is (with_entry told (Claim w n job.Emit k) 2) w n (work.Emit table k)
+    emit_work w n k can slot table is h =
+        let s = state_of told in
+        let a = alike told.given n in
+        let x = table_there w n can.1.0 slot h in
+        let e = sym x.1 ∙ is in
+        let same : x.0 ≡ table = cc in
+        let fits = can.1.2 in
+        (
+          task_of s n job.Emit k blank [],
+          flies w n k job.Emit (task_of s n job.Emit k blank []) refl,
+          refl,
+          (refl, subst (λ t. IsTable meaning local_is shared_is (site_of told.given n) t) same x.2, refl,
+           subst (λ m. k < parts m (site_of told.given n).table) a.batch (subst (λ rows. k < parts (plan_of told.given).batch rows) a.table fits))
+        )
+
+    pub tail_work : (w n k : ℕ) → Enabled (plan_of told.given) (state_of told) (Claim w n job.Tail k)
+        → (slot : Option (Share O S L)) (part : Part O S L) → slot ≡ Some (share.Part part)
+        → IsShareOf meaning local_is shared_is told w n slot
+        → IsWorkOf meaning local_is shared_is (with_entry told (Claim w n job.Tail k) 2) w n (work.Tail part k)
+    tail_work w n k can slot part is h =
+        let P = plan_of told.given in
+        let s = state_of told in
+        let a = alike told.given n in
+        let x = tailed_there w n can.1.0 slot h in
+        let e = sym x.1 ∙ is in
+        let same : x.0 ≡ part = cc in
+        let tails = sym a.tails ∙ (known P lawful well told.history legal can.0.sound).tailing n can.0.node can.1.0 in
+        let size : size_of (site_of told.given n).meaning ≡ P.batch = ap size_of a.meaning ∙ sized (node_at told.given.nodes n).kind (input_kinds told.given.nodes (node_at told.given.nodes n)) told.given.pace.batch (sym (ap (λ m. m.shape.tails) a.meaning) ∙ tails) in
+        (
+          task_of s n job.Tail k blank [],
+          flies w n k job.Tail (task_of s n job.Tail k blank []) refl,
+          refl,
+          (refl, subst (λ p. IsShared meaning local_is shared_is (site_of told.given n) (s.built n) (s.streamed n) p) same x.2, refl, inl tails,
+           subst (λ m. k < part_count_of (length ((site_of told.given n).meaning.rest (s.built n) (rows_of (s.streamed n)))) m) (sym size)
+           (subst (λ (r : List (List Value) → List (List Value) → List (List Value)). k < part_count_of (length (r (s.built n) (rows_of (s.streamed n)))) P.batch) a.rest can.1.2))
+        )

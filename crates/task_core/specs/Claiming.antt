@@ -12,6 +12,9 @@ use Rattle.std.specs.VecDeque.{deque_capacity}
 use Rattle.backpressure.specs.Edges.{with_one_less}
 use Rattle.plan_nodes.specs.Operators.{OpMeaning}
 use Rattle.task_work.specs.declared.work.Share.{Share}
+use Rattle.task_work.specs.declared.work.Work.{Work}
+use Rattle.task_work.specs.Work.{IsWork}
+use Rattle.plan_machine.specs.State.{Task as MachineTask}
 use Rattle.task_work.specs.declared.work.Waiting.{Waiting}
 use Rattle.task_core.specs.declared.queue.Queue.{Queue}
 use Rattle.task_core.specs.declared.stage.Stage.{Stage}
@@ -84,6 +87,14 @@ module _ {O S L : Type 0}
     pub record IsRowOf (told : Told) (node : ℕ) (row : List (Option (Share O S L))) : Type 0 where
       pub size : length row ≡ (plan_of told.given).workers
       pub each : (k : ℕ) → k < (plan_of told.given).workers → IsShareOf told (suc k) node (slice_index_or row k None)
+
+    -- it is the work of the worker's task in flight, which stands at this node
+    abbrev pub IsWorkOf : Told → (worker node : ℕ) → Work O S L → Type 0
+    IsWorkOf told worker node w =
+        (task : MachineTask (List Value))
+        × ((state_of told).tasks worker ≡ Some task)
+        × (task.node ≡ node)
+        × IsWork meaning local_is shared_is (site_of told.given node) task w
 
 -- it is the batch that has waited longest on the edge that the node reads
 pub record IsOldest (told : Told) (node : ℕ) (w : Waiting) : Type 0 where
