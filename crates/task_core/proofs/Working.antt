@@ -1,5 +1,5 @@
 -- What a claim took is the work of its task.
-use Rattle.std.proofs.Common.{◌≡◌, ◌≢◌, ℕ, zero, suc, ◌+◌, ◌-◌, ◌<◌, ◌≤◌, Bool, true, false, cond, ◌&&◌, nat_eq, List, [], ◌∷◌, ◌++◌, length, map, Option, Some, None, refl, sym, ap, subst, ◌∙◌, ◌⊎◌, inl, inr, arith, append_assoc, append-nil, eqb-true, slice_index_or}
+use Rattle.std.proofs.Common.{◌≡◌, ◌≢◌, ℕ, zero, suc, ◌+◌, ◌-◌, ◌<◌, ◌≤◌, Bool, true, false, cond, ◌&&◌, nat_eq, List, [], ◌∷◌, ◌++◌, length, map, Option, Some, None, refl, sym, ap, subst, ◌∙◌, ◌⊎◌, inl, inr, arith, Vec, append_assoc, append-nil, eqb-true, slice_index_or}
 use Rattle.std.specs.declared.alloc.Global.{Global}
 use Rattle.std.specs.declared.sync.Arc.{Arc}
 use Rattle.scalar_value.specs.declared.value.Value.{Value}
@@ -80,6 +80,10 @@ alike g n =
       inputs = refl;
       columns = refl;
     }
+
+source_is : (g : Given) (n : ℕ) → (site_of g n).source ≡ is_source (node_at g.nodes n).kind
+unfolding site_of
+source_is g n = refl
 
 -- ---- kinds of nodes
 
@@ -271,6 +275,9 @@ module _ {O S L : Type 0}
           workers = h.size ∙ sym (site_workers told.given n);
         }
 
+    some_workers : (w n : ℕ) → IsWorker (plan_of told.given) w → 1 ≤ (site_of told.given n).workers
+    some_workers w n worker = let s = site_workers told.given n in let lo = worker.0 in let hi = worker.1 in omega arith
+
     -- ---- the task of a claim
 
     flies : (w n k : ℕ) (j : Job) (t : Task (List Value)) → (claimed (plan_of told.given) (state_of told) w n j k).tasks ≡ upd (state_of told).tasks w (Some t)
@@ -320,4 +327,190 @@ module _ {O S L : Type 0}
           (refl, subst (λ p. IsShared meaning local_is shared_is (site_of told.given n) (s.built n) (s.streamed n) p) same x.2, refl, inl tails,
            subst (λ m. k < part_count_of (length ((site_of told.given n).meaning.rest (s.built n) (rows_of (s.streamed n)))) m) (sym size)
            (subst (λ (r : List (List Value) → List (List Value) → List (List Value)). k < part_count_of (length (r (s.built n) (rows_of (s.streamed n)))) P.batch) a.rest can.1.2))
+        )
+
+    module _ (n : ℕ) (node : IsNode (plan_of told.given) n) (sound : (state_of told).failed ≡ false) where
+      starts : Started (plan_of told.given) lawful well (state_of told)
+      starts = (run (plan_of told.given) lawful well told.history (opening (plan_of told.given)) (good-opening (plan_of told.given) lawful well) legal sound).good.sound.fit.started
+
+      kind_folds : (site_of told.given n).meaning.shape.folds ≡ true → (kind_meaning (node_at told.given.nodes n).kind (input_kinds told.given.nodes (node_at told.given.nodes n)) told.given.pace.batch).shape.folds ≡ true
+      kind_folds e = sym (ap (λ m. m.shape.folds) (alike told.given n).meaning) ∙ e
+
+      kind_streams : (site_of told.given n).meaning.shape.streams ≡ true → (kind_meaning (node_at told.given.nodes n).kind (input_kinds told.given.nodes (node_at told.given.nodes n)) told.given.pace.batch).shape.streams ≡ true
+      kind_streams e = sym (ap (λ m. m.shape.streams) (alike told.given n).meaning) ∙ e
+
+      counted : length (node_at told.given.nodes n).inputs ≡ input_count (node_at told.given.nodes n).kind
+      counted = (planned.placed n node.0 node.1).count
+
+      pub folds_here : (state_of told).phase n ≡ Folding → (site_of told.given n).meaning.shape.folds ≡ true
+      folds_here at = starts_folding (site_of told.given n).source (site_of told.given n).meaning.shape (sym (alike told.given n).start ∙ starts.folding n node at)
+
+      pub streams_here : (state_of told).phase n ≡ Streaming → (site_of told.given n).meaning.shape.streams ≡ true
+      streams_here at = by (starts.streaming n node at)
+        where
+          a : Alike told.given n
+          a = alike told.given n
+
+          by : Streams ((plan_of told.given).node n) → (site_of told.given n).meaning.shape.streams ≡ true
+          by (inr j) = sym a.streams ∙ j.1
+          by (inl o) =
+              let x = starts_streaming (site_of told.given n).source (site_of told.given n).meaning.shape (sym a.start ∙ o) in
+              ap (λ m. m.shape.streams) a.meaning
+              ∙ streams_alone (node_at told.given.nodes n).kind (input_kinds told.given.nodes (node_at told.given.nodes n)) told.given.pace.batch (sym (source_is told.given n) ∙ x.0) (sym (ap (λ m. m.shape.folds) a.meaning) ∙ x.1)
+
+      first_input : (site_of told.given n).meaning.shape.streams ≡ true ⊎ (site_of told.given n).meaning.shape.folds ≡ true → (site_of told.given (streams_from (plan_of told.given) n)).columns ≡ first_of (site_of told.given n).inputs
+      first_input some =
+          let a = alike told.given n in
+          let ins = (node_at told.given.nodes n).inputs in
+          let one = one_input (node_at told.given.nodes n).kind (input_kinds told.given.nodes (node_at told.given.nodes n)) told.given.pace.batch (elim some [ inl s ↦ inr (kind_streams s) | inr f ↦ inl (kind_folds f) ]) in
+          let c = counted in
+          (alike told.given (streams_from (plan_of told.given) n)).columns
+          ∙ (ap (λ e. kinds_of (node_at told.given.nodes e).schema) a.first
+          ∙ (first_columns told.given.nodes ins (omega arith) ∙ ap first_of (sym a.inputs)))
+
+      folded_input : (site_of told.given n).meaning.shape.folds ≡ true → (site_of told.given (folds_from (plan_of told.given) n)).columns ≡ folded_of (site_of told.given n).meaning (site_of told.given n).inputs
+      folded_input folds = by (site_of told.given n).meaning.shape.streams refl
+        where
+          a : Alike told.given n
+          a = alike told.given n
+
+          by : (b : Bool) → (site_of told.given n).meaning.shape.streams ≡ b → (site_of told.given (folds_from (plan_of told.given) n)).columns ≡ folded_of (site_of told.given n).meaning (site_of told.given n).inputs
+          by true e =
+              let P = plan_of told.given in
+              let ins = (node_at told.given.nodes n).inputs in
+              let at : folds_from P n ≡ (P.node n).second = ap (λ b. cond b (P.node n).second (P.node n).first) (a.streams ∙ e) in
+              let two = two_inputs (node_at told.given.nodes n).kind (input_kinds told.given.nodes (node_at told.given.nodes n)) told.given.pace.batch (kind_folds folds) (kind_streams e) in
+              let c = counted in
+              ap (λ m. (site_of told.given m).columns) at
+              ∙ ((alike told.given (P.node n).second).columns
+              ∙ (ap (λ m. kinds_of (node_at told.given.nodes m).schema) a.second
+              ∙ (second_columns told.given.nodes ins (omega arith)
+              ∙ (ap second_of (sym a.inputs)
+              ∙ sym (ap (λ b. cond b (second_of (site_of told.given n).inputs) (first_of (site_of told.given n).inputs)) e)))))
+          by false e =
+              let P = plan_of told.given in
+              let at : folds_from P n ≡ (P.node n).first = ap (λ b. cond b (P.node n).second (P.node n).first) (a.streams ∙ e) in
+              ap (λ m. (site_of told.given m).columns) at
+              ∙ (first_input (inr folds)
+              ∙ sym (ap (λ b. cond b (second_of (site_of told.given n).inputs) (first_of (site_of told.given n).inputs)) e))
+
+      -- what is gathered gave no rows before
+      not_going : (state_of told).phase n ≡ Folding → goes_on (plan_of told.given) (folds_from (plan_of told.given) n) ≡ true → ⊥
+      not_going at h =
+          let P = plan_of told.given in
+          let folds = starts.folding n node at in
+          let i = folds_input P well n node folds in
+          let e = folds_from P n in
+          let g : ((P.node n).streams && (nat_eq (streams_from P n) e && (P.node n).cuts)) ≡ true = subst (λ m. ((P.node m).streams && (nat_eq (streams_from P m) e && (P.node m).cuts)) ≡ true) i.user h in
+          let s = and_left (P.node n).streams (nat_eq (streams_from P n) e && (P.node n).cuts) g in
+          let q = eqb-true (streams_from P n) e (and_left (nat_eq (streams_from P n) e) (P.node n).cuts (and_right (P.node n).streams (nat_eq (streams_from P n) e && (P.node n).cuts) g)) in
+          (well.nodes n node).apart (folds, s) (q ∙ ap (λ b. cond b (P.node n).second (P.node n).first) s)
+
+      cuts_here : (state_of told).phase n ≡ Streaming → goes_on (plan_of told.given) (streams_from (plan_of told.given) n) ≡ true → (site_of told.given n).meaning.cuts ≡ true
+      cuts_here at h =
+          let P = plan_of told.given in
+          let i = streams_input P well n node (starts.streaming n node at) in
+          let e = streams_from P n in
+          let g : ((P.node n).streams && (nat_eq (streams_from P n) e && (P.node n).cuts)) ≡ true = subst (λ m. ((P.node m).streams && (nat_eq (streams_from P m) e && (P.node m).cuts)) ≡ true) i.user h in
+          sym (alike told.given n).cuts ∙ and_right (nat_eq (streams_from P n) e) (P.node n).cuts (and_right (P.node n).streams (nat_eq (streams_from P n) e && (P.node n).cuts) g)
+
+      -- the batch that was taken, on the edge that the phase reads
+      taken_on : (e : ℕ) (x : Waiting) → reads_from (plan_of told.given) n ((state_of told).phase n) ≡ e → IsOldest told n x
+          → (waiting_item x ≡ at_or blank 0 ((state_of told).waiting e)) × IsWaiting (site_of told.given e).columns (goes_on (plan_of told.given) e) x
+      taken_on e x is o =
+          (
+            subst (λ m. waiting_item x ≡ at_or blank 0 ((state_of told).waiting m)) is o.item,
+            subst (λ m. IsWaiting (site_of told.given m).columns (goes_on (plan_of told.given) m) x) is o.stands
+          )
+
+      is_folded : (w k : ℕ) → k ≡ 0 → (state_of told).phase n ≡ Folding → (x : Waiting) → IsOldest told n x
+          → IsFolded meaning local_is shared_is (site_of told.given n) (task_of (state_of told) n job.Fold k (at_or blank k ((state_of told).waiting (folds_from (plan_of told.given) n))) ((state_of told).locals n w)) x.batch
+      is_folded w k zero_is at x o =
+          let P = plan_of told.given in
+          let s = state_of told in
+          let e = folds_from P n in
+          let y = taken_on e x (ap (reads_from P n) at) o in
+          let none : x.from ≡ 0 = elim y.1.starts [ inl g ↦ absurd (not_going at g) | inr z ↦ z ] in
+          record {
+            folds = folds_here at;
+            batch = ap (λ j. at_or blank j (s.waiting e)) zero_is ∙ (sym y.0 ∙ ap (item x.batch) none);
+            columns = y.1.columns_are ∙ folded_input (folds_here at);
+          }
+
+      is_streamed : (w k : ℕ) → k ≡ 0 → (state_of told).phase n ≡ Streaming → (x : Waiting) → IsOldest told n x
+          → IsStreamed meaning local_is shared_is (site_of told.given n) (task_of (state_of told) n job.Stream k (at_or blank k ((state_of told).waiting (streams_from (plan_of told.given) n))) ((state_of told).locals n w)) x.batch x.from
+      is_streamed w k zero_is at x o =
+          let P = plan_of told.given in
+          let s = state_of told in
+          let e = streams_from P n in
+          let y = taken_on e x (ap (reads_from P n) at) o in
+          record {
+            streams = streams_here at;
+            batch = ap (λ j. at_or blank j (s.waiting e)) zero_is ∙ sym y.0;
+            columns = y.1.columns_are ∙ first_input (inl (streams_here at));
+            starts = elim y.1.starts [ inl g ↦ inl (cuts_here at g) | inr z ↦ inr z ];
+          }
+
+    pub fold_work : (w n k : ℕ) → k ≡ 0 → Enabled (plan_of told.given) (state_of told) (Claim w n job.Fold k)
+        → (slot : Option (Share O S L)) (part : Part O S L) (x : Waiting) → slot ≡ Some (share.Part part)
+        → IsShareOf meaning local_is shared_is told w n slot → IsOldest told n x
+        → IsWorkOf meaning local_is shared_is (with_entry told (Claim w n job.Fold k) 2) w n (work.Fold part x.batch)
+    fold_work w n k zero_is can slot part x is h o =
+        let s = state_of told in
+        let y = folded_there w n can.1.0 slot h in
+        let e = sym y.1 ∙ is in
+        let same : y.0 ≡ part = cc in
+        let t = task_of s n job.Fold k (at_or blank k (s.waiting (folds_from (plan_of told.given) n))) (s.locals n w) in
+        (
+          t,
+          flies w n k job.Fold t refl,
+          refl,
+          (refl, subst (λ p. IsPart meaning local_is shared_is (site_of told.given n) (folded_of (site_of told.given n).meaning (site_of told.given n).inputs) (s.locals n w) (s.built n) [] p) same y.2,
+           is_folded n can.0.node can.0.sound w k zero_is can.1.0 x o)
+        )
+
+    pub stream_work : (w n k : ℕ) → k ≡ 0 → Enabled (plan_of told.given) (state_of told) (Claim w n job.Stream k)
+        → (slot : Option (Share O S L)) (part : Part O S L) (x : Waiting) → slot ≡ Some (share.Part part)
+        → IsShareOf meaning local_is shared_is told w n slot → IsOldest told n x
+        → IsWorkOf meaning local_is shared_is (with_entry told (Claim w n job.Stream k) 2) w n (work.Stream part x.batch x.from)
+    stream_work w n k zero_is can slot part x is h o =
+        let s = state_of told in
+        let y = streamed_there w n can.1.0 slot h in
+        let e = sym y.1 ∙ is in
+        let same : y.0 ≡ part = cc in
+        let t = task_of s n job.Stream k (at_or blank k (s.waiting (streams_from (plan_of told.given) n))) (s.locals n w) in
+        (
+          t,
+          flies w n k job.Stream t refl,
+          refl,
+          (refl, subst (λ p. IsPart meaning local_is shared_is (site_of told.given n) (first_of (site_of told.given n).inputs) (s.locals n w) (s.built n) [] p) same y.2,
+           is_streamed n can.0.node can.0.sound w k zero_is can.1.0 x o)
+        )
+
+    pub seal_work : (w n k : ℕ) → Enabled (plan_of told.given) (state_of told) (Claim w n job.Seal k)
+        → (row : Vec (Option (Share O S L)) Global)
+        → IsRowOf meaning local_is shared_is told n row.items
+        → IsWorkOf meaning local_is shared_is (with_entry told (Claim w n job.Seal k) 2) w n (work.Seal row)
+    seal_work w n k can row h =
+        let s = state_of told in
+        let t = task_of s n job.Seal k blank (gather (plan_of told.given).workers (s.locals n)) in
+        (
+          t,
+          flies w n k job.Seal t refl,
+          refl,
+          (refl, row_is n (folded_of (site_of told.given n).meaning (site_of told.given n).inputs) row.items h (λ j slot x. folded_part n j slot can.1.0 x), some_workers w n can.0.worker, folds_here n can.0.node can.0.sound can.1.0)
+        )
+
+    pub close_work : (w n k : ℕ) → Enabled (plan_of told.given) (state_of told) (Claim w n job.Close k)
+        → (row : Vec (Option (Share O S L)) Global)
+        → IsRowOf meaning local_is shared_is told n row.items
+        → IsWorkOf meaning local_is shared_is (with_entry told (Claim w n job.Close k) 2) w n (work.Close row)
+    close_work w n k can row h =
+        let s = state_of told in
+        let t = task_of s n job.Close k blank (gather (plan_of told.given).workers (s.locals n)) in
+        (
+          t,
+          flies w n k job.Close t refl,
+          refl,
+          (refl, row_is n (first_of (site_of told.given n).inputs) row.items h (λ j slot x. streamed_part n j slot can.1.0 x), some_workers w n can.0.worker, streams_here n can.0.node can.0.sound can.1.0, sym (alike told.given n).tails ∙ can.1.4)
         )
