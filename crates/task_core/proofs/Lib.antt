@@ -15,3 +15,15 @@ pub mod Entering
 pub mod Claiming
 pub mod Claimed
 pub mod Working
+pub mod At
+pub mod Tables
+pub mod Outcomes
+pub mod Dues
+pub mod Landed
+pub mod Bringing
+pub mod BringFold
+pub mod Queueing
+pub mod Giving
+pub mod BringEmit
+pub mod Sizes
+pub mod BringTail

@@ -4,13 +4,24 @@ ghost use Rattle.std.specs.Prelude.{◌≡◌, ◌<◌, ◌-◌, ◌^◌, ◌++�
 ghost use Rattle.std.specs.VecDeque.{deque_len, deque_capacity};
 ghost use Rattle.task_core.specs.declared.queue.Queue.{Queue};
 ghost use Rattle.task_core.specs.declared.stage.Stage.{Stage};
+ghost use Rattle.plan_machine.specs.After.{is_done};
 ghost use Rattle.plan_machine.specs.declared.entry.Entry.TheVariants as EntryOf;
-ghost use Rattle.task_core.specs.Delivering.{with_less_busy, IsGrown, IsDeparting};
+ghost use Rattle.task_core.specs.Delivering.{with_less_busy, IsGrown, IsDeparting, HasSeat, HasRoom};
 
 use crate::queue::Queue;
 use crate::stage::{Flight, Stage};
-use plan_machine::Entry;
+use plan_machine::{Entry, Phase};
 use task_work::{Share, Waiting};
+
+/// Whether a node has ended.
+pub fn is_over(phase: Phase) -> bool
+    ensures { result ≡ is_done phase }
+{
+    match phase {
+        Phase::Done => true,
+        Phase::Emitting | Phase::Folding | Phase::Streaming | Phase::Tailing | Phase::Sealed => false,
+    }
+}
 
 /// A worker's task at a node is no longer in flight, which the history says.
 pub fn depart(
@@ -35,47 +46,43 @@ pub fn depart(
 }
 
 /// Puts a worker's share of a node back.
-pub fn put_share<O: Drop, S: Drop, L: Drop>(shares: &mut Vec<Vec<Option<Share<O, S, L>>>>, place: usize, seat: usize, share: Share<O, S, L>)
-    requires place { place < vec_len shares.old }
-    requires seat { (d : List (Option (Share O S L))) → seat < length (slice_index_or (map (λ row. row.items) shares.old.items) place d) }
+pub fn put_share<O: Drop, S: Drop, L: Drop>(shares: &mut Vec<Vec<Option<Share<O, S, L>>>>, worker: u32, node: u32, share: Share<O, S, L>)
+    requires { HasSeat (map (λ row. row.items) shares.old.items) worker node }
     ensures {
         (d : List (Option (Share O S L)))
         → map (λ row. row.items) shares.new.items
-            ≡ slice_set (map (λ row. row.items) shares.old.items) place (slice_set (slice_index_or (map (λ row. row.items) shares.old.items) place d) seat (Some share))
+            ≡ slice_set (map (λ row. row.items) shares.old.items) (node - 1)
+                (slice_set (slice_index_or (map (λ row. row.items) shares.old.items) (node - 1) d) (worker - 1) (Some share))
     }
 {
-    let row = &mut shares[place];
-    row[seat] = Some(share);
+    let row = &mut shares[(node - 1) as usize];
+    row[(worker - 1) as usize] = Some(share);
 }
 
 /// Puts a batch behind all that wait on an edge.
-pub fn put_back(queues: &mut Vec<Queue>, place: usize, waiting: Waiting)
-    requires place { place < vec_len queues.old }
-    requires room { (d : Queue) → deque_len (slice_index_or queues.old.items place d).waiting < deque_capacity (slice_index_or queues.old.items place d).waiting }
-    requires count { (d : Queue) → (slice_index_or queues.old.items place d).edge.waiting < 2 ^ 32 - 1 }
+pub fn put_back(queues: &mut Vec<Queue>, edge: u32, waiting: Waiting)
+    requires { HasRoom queues.old.items edge }
     ensures {
         (d : Queue) → (q : Queue)
-        × (queues.new.items ≡ slice_set queues.old.items place q)
-        × IsGrown (slice_index_or queues.old.items place d) ((slice_index_or queues.old.items place d).waiting.items ++ waiting ∷ []) q
+        × (queues.new.items ≡ slice_set queues.old.items (edge - 1) q)
+        × IsGrown (slice_index_or queues.old.items (edge - 1) d) ((slice_index_or queues.old.items (edge - 1) d).waiting.items ++ waiting ∷ []) q
     }
 {
-    let queue = &mut queues[place];
+    let queue = &mut queues[(edge - 1) as usize];
     queue.waiting.push_back_reserved(waiting);
     queue.edge.came();
 }
 
 /// Puts a batch before all that wait on an edge.
-pub fn put_front(queues: &mut Vec<Queue>, place: usize, waiting: Waiting)
-    requires place { place < vec_len queues.old }
-    requires room { (d : Queue) → deque_len (slice_index_or queues.old.items place d).waiting < deque_capacity (slice_index_or queues.old.items place d).waiting }
-    requires count { (d : Queue) → (slice_index_or queues.old.items place d).edge.waiting < 2 ^ 32 - 1 }
+pub fn put_front(queues: &mut Vec<Queue>, edge: u32, waiting: Waiting)
+    requires { HasRoom queues.old.items edge }
     ensures {
         (d : Queue) → (q : Queue)
-        × (queues.new.items ≡ slice_set queues.old.items place q)
-        × IsGrown (slice_index_or queues.old.items place d) (waiting ∷ (slice_index_or queues.old.items place d).waiting.items) q
+        × (queues.new.items ≡ slice_set queues.old.items (edge - 1) q)
+        × IsGrown (slice_index_or queues.old.items (edge - 1) d) (waiting ∷ (slice_index_or queues.old.items (edge - 1) d).waiting.items) q
     }
 {
-    let queue = &mut queues[place];
+    let queue = &mut queues[(edge - 1) as usize];
     queue.waiting.push_front_reserved(waiting);
     queue.edge.came();
 }
