@@ -27,3 +27,4 @@ pub mod Giving
 pub mod BringEmit
 pub mod Sizes
 pub mod BringTail
+pub mod Works

@@ -11,7 +11,12 @@ use Rattle.plan_machine.specs.Plan.{Plan as MachinePlan}
 use Rattle.std.specs.VecDeque.{deque_capacity}
 use Rattle.backpressure.specs.Edges.{with_one_less}
 use Rattle.plan_nodes.specs.Operators.{OpMeaning}
+use Rattle.std.specs.declared.alloc.Global.{Global}
+use Rattle.std.specs.declared.sync.Arc.{Arc}
+use Rattle.row_table.specs.Tables.{TableValue}
+use Rattle.task_work.specs.declared.work.Part.{Part}
 use Rattle.task_work.specs.declared.work.Share.{Share}
+use Rattle.task_work.specs.declared.work.Share.TheVariants as share
 use Rattle.task_work.specs.declared.work.Work.{Work}
 use Rattle.task_work.specs.Work.{IsWork}
 use Rattle.plan_machine.specs.State.{Task as MachineTask}
@@ -70,6 +75,13 @@ pub record IsShortened (q : Queue) (first : Waiting) (q' : Queue) : Type 0 where
 -- the edge that a node reads in its phase
 abbrev pub reads_from : MachinePlan (List Value) → ℕ → Phase → ℕ
 reads_from P n phase = input_by phase (P.node n).streams (P.node n).first (P.node n).second n
+
+-- a share of a table, and a worker's part
+abbrev pub HasTable : {O S L : Type 0} → Option (Share O S L) → Type 0
+HasTable slot = (t : Arc TableValue Global) × (slot ≡ Some (share.Table t))
+
+abbrev pub HasPart : {O S L : Type 0} → Option (Share O S L) → Type 0
+HasPart {O} {S} {L} slot = (p : Part O S L) × (slot ≡ Some (share.Part p))
 
 module _ {O S L : Type 0}
     (meaning : O → OpMeaning)

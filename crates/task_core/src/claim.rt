@@ -1,10 +1,11 @@
 ghost use Rattle.std.specs.Prelude.{◌≡◌, ℕ, ◌<◌, ◌≤◌, true, IfSome, IfNone};
 ghost use Rattle.plan_machine.specs.Plan.{IsNode, IsWorker};
 ghost use Rattle.plan_machine.specs.Enabled.{Enabled};
-ghost use Rattle.plan_machine.specs.Driver.{NoClaim};
-ghost use Rattle.task_core.specs.Told.{plan_of, state_of, with_entry};
+ghost use Rattle.plan_machine.specs.Driver.{IsClaimChoice, NoClaim};
+ghost use Rattle.task_core.specs.Told.{plan_of, state_of, site_of, with_entry};
+ghost use Rattle.task_core.specs.Calls.{Claimed};
 ghost use Rattle.task_core.specs.Stored.{takes_all};
-ghost use Rattle.task_core.specs.Claiming.{gives_next, takes_batch, reads_from, IsShareOf, IsRowOf, IsOldest};
+ghost use Rattle.task_core.specs.Claiming.{gives_next, takes_batch, reads_from, IsShareOf, IsRowOf, IsOldest, IsWorkOf, HasTable, HasPart};
 
 use crate::choice::input_of;
 use crate::stage::Flight;
@@ -12,7 +13,32 @@ use crate::state::PlanState;
 use crate::taking::{enter, take_front, take_row, take_share};
 use plan_machine::{Entry, Job};
 use plan_nodes::Operator;
-use task_work::{Share, Waiting};
+use row_table::Table;
+use std::alloc::Global;
+use std::sync::Arc;
+use task_work::{Part, Share, Task, Waiting, Work};
+
+/// The table of a source's share.
+fn table_of<O: Drop, S: Drop, L: Drop>(share: Option<Share<O, S, L>>) -> Arc<Table, Global>
+    requires { HasTable share }
+    ensures { share ≡ Some (Share.Table result) }
+{
+    match share {
+        Some(Share::Table(table)) => table,
+        _ => unreachable!(),
+    }
+}
+
+/// A worker's part of a node that is no source.
+fn part_of<O: Drop, S: Drop, L: Drop>(share: Option<Share<O, S, L>>) -> Part<O, S, L>
+    requires { HasPart share }
+    ensures { share ≡ Some (Share.Part result) }
+{
+    match share {
+        Some(Share::Part(part)) => part,
+        _ => unreachable!(),
+    }
+}
 
 impl<O: Operator> PlanState<O> {
     /// The edge that a node reads in its phase; in a phase that reads none, its own.
@@ -73,5 +99,73 @@ impl<O: Operator> PlanState<O> {
         enter(&mut self.seats, &mut self.stages, &mut self.history, &mut self.flying, worker, flight);
         self.room -= 2;
         row
+    }
+
+    /// Claims a job that was chosen, and takes its work.
+    fn take_work(&mut self, worker: u32, flight: Flight) -> Work<O, O::Shared, O::Local>
+        requires chosen { IsClaimChoice (plan_of self.old.given) (state_of self.old) worker flight.node flight.job flight.number }
+        requires room { 2 ≤ self.old.room }
+        ensures told { self.new ≡ with_entry self.old (Entry.Claim worker flight.node flight.job flight.number) 2 }
+        ensures work { IsWorkOf O.meaning O.local_is O.shared_is self.new worker flight.node result }
+    {
+        let _room = self.room;
+        let number = flight.number;
+        match flight.job {
+            Job::Emit => {
+                let share = self.take_one(worker, flight);
+                Work::Emit { table: table_of(share), number }
+            }
+            Job::Fold => {
+                let edge = self.input(flight.node);
+                let (share, Waiting { batch, from: _ }) = self.take_batch(worker, flight, edge);
+                Work::Fold { part: part_of(share), batch }
+            }
+            Job::Seal => Work::Seal { row: self.take_all(worker, flight) },
+            Job::Stream => {
+                let edge = self.input(flight.node);
+                let (share, Waiting { batch, from }) = self.take_batch(worker, flight, edge);
+                Work::Stream { part: part_of(share), batch, from }
+            }
+            Job::Close => Work::Close { row: self.take_all(worker, flight) },
+            Job::Tail => {
+                let share = self.take_one(worker, flight);
+                Work::Tail { part: part_of(share), number }
+            }
+        }
+    }
+
+    /// Whether the order of a node's rows is kept.
+    fn is_kept(&self, node: u32) -> bool
+        requires { IsNode (plan_of self.now.given) node }
+        ensures { (site_of self.now.given node).kept ≡ result }
+    {
+        self.infos[(node - 1) as usize].kept
+    }
+
+    /// The rows of a batch.
+    fn batch_rows(&self) -> u32
+        ensures { (n : ℕ) → (site_of self.now.given n).batch ≡ result }
+    {
+        self.setting.batch
+    }
+
+    /// Claims what a worker can claim first, and gives it its work; none where nothing can be claimed. The room for two
+    /// entries is used: the claim's and its delivery's.
+    pub fn claim(&mut self, worker: u32) -> Option<Task<O>>
+        requires worker { IsWorker (plan_of self.old.given) worker }
+        requires room { 2 ≤ self.old.room }
+        ensures claimed { IfSome result (λ task. Claimed O.meaning O.local_is O.shared_is self.old self.new worker task.node task.kept task.batch task.work) }
+        ensures none { IfNone result ((self.new ≡ self.old) × NoClaim (plan_of self.old.given) (state_of self.old) worker) }
+    {
+        match self.choice(worker) {
+            Some(flight) => {
+                let node = flight.node;
+                let kept = self.is_kept(node);
+                let batch = self.batch_rows();
+                let work = self.take_work(worker, flight);
+                Some(Task { node, kept, batch, work })
+            }
+            None => None,
+        }
     }
 }
