@@ -1,5 +1,5 @@
 -- What a worker brings back of a task that lands.
-use Rattle.std.proofs.Common.{◌≡◌, ℕ, suc, ◌-◌, ◌≤◌, Bool, false, ◌||◌, List, Some, refl, sym, ap, subst, ◌∙◌, arith}
+use Rattle.std.proofs.Common.{◌≡◌, ℕ, suc, ◌-◌, ◌≤◌, ◌<◌, ◌+◌, length, Option, Bool, false, ◌||◌, List, Some, refl, sym, ap, subst, ◌∙◌, arith}
 use Rattle.scalar_value.specs.declared.value.Value.{Value}
 use Rattle.scalar_value.specs.declared.value.ColType.{ColType}
 use Rattle.plan_machine.specs.declared.entry.Entry.{Entry}
@@ -13,7 +13,13 @@ use Rattle.task_work.specs.declared.work.Fruit.{Fruit}
 use Rattle.task_work.specs.Work.{IsFruit}
 use Rattle.task_core.specs.Told.{Told, Given, plan_of, state_of, site_of}
 use Rattle.task_core.specs.Calls.{IsDue}
-use Rattle.task_core.specs.Delivering.{is_dropped}
+use Rattle.task_work.specs.declared.work.Share.{Share}
+use Rattle.task_core.specs.declared.queue.Queue.{Queue}
+use Rattle.task_core.specs.declared.stage.Stage.{Stage}
+use Rattle.task_core.specs.declared.stage.NodeInfo.{NodeInfo}
+use Rattle.task_core.specs.declared.stage.Flight.{Flight}
+use Rattle.task_core.specs.Stored.{Stands}
+use Rattle.task_core.specs.Delivering.{is_dropped, HasPlace}
 use Rattle.task_core.proofs.Seated.{seated}
 
 module _ {O S L : Type 0}
@@ -61,3 +67,24 @@ module _ {O S L : Type 0}
         let at' : suc (n - 1) ≡ n = omega arith in
         let b' : Brings told (suc (w - 1)) (suc (n - 1)) f = subst (λ v. Brings told v (suc (n - 1)) f) (sym at) (subst (λ k. Brings told w k f) (sym at') b) in
         record { node = node; at_worker = at; at_node = at'; task = b'.due.task; brings = brings_at told (w - 1) (n - 1) f b' }
+
+    -- the places of the node in what is stored
+    pub record Places {A B C D : Type 0} (infos : List A) (stages : List B) (queues : List C) (rows : List D) (n : ℕ) : Type 0 where
+      pub infos_at : HasPlace infos n
+      pub stages_at : HasPlace stages n
+      pub queues_at : HasPlace queues n
+      pub rows_at : HasPlace rows n
+
+    pub places : (g : Given) (es : List Entry) (infos : List NodeInfo) (stages : List Stage) (queues : List Queue) (rows : List (List (Option (Share O S L)))) (seats : List (Option Flight)) (failed : Bool) (count room capacity w n : ℕ) (t : Task (List Value))
+        → Stands meaning local_is shared_is g es infos stages queues rows seats failed count room capacity
+        → (state_after (plan_of g) es).tasks w ≡ Some t → t.node ≡ n
+        → Places infos stages queues rows n
+    places g es infos stages queues rows seats failed count room capacity w n t h busy here =
+        let node : IsNode (plan_of g) n = subst (λ k. IsNode (plan_of g) k) here ((seated (plan_of g) es h.legal).at_node w t busy) in
+        let low = node.0 in
+        let upper = node.1 in
+        let a = h.stored.all_infos in
+        let b = h.stored.all_stages in
+        let c = h.stored.all_queues in
+        let d = h.stored.all_rows in
+        record { infos_at = (low, omega arith); stages_at = (low, omega arith); queues_at = (low, omega arith); rows_at = (low, omega arith) }

@@ -28,3 +28,8 @@ pub mod BringEmit
 pub mod Sizes
 pub mod BringTail
 pub mod Works
+pub mod Whole
+pub mod BringSeal
+pub mod BringClose
+pub mod Streamed
+pub mod BringStream

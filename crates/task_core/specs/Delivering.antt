@@ -3,6 +3,7 @@ use Rattle.std.specs.Prelude.{◌≡◌, ℕ, ◌-◌, ◌<◌, ◌≤◌, ◌^�
 use Rattle.std.specs.VecDeque.{deque_len, deque_capacity}
 use Rattle.scalar_value.specs.declared.value.Value.{Value}
 use Rattle.backpressure.specs.Edges.{with_one_more}
+use Rattle.plan_machine.specs.declared.entry.Phase.{Phase}
 use Rattle.plan_machine.specs.State.{Task as MachineTask}
 use Rattle.plan_machine.specs.After.{is_done}
 use Rattle.task_work.specs.declared.work.Waiting.{Waiting}
@@ -53,3 +54,11 @@ pub record HasRoom (queues : List Queue) (edge : ℕ) : Type 0 where
   pub place : edge - 1 < length queues
   pub room : (d : Queue) → deque_len (slice_index_or queues (edge - 1) d).waiting < deque_capacity (slice_index_or queues (edge - 1) d).waiting
   pub count : (d : Queue) → (slice_index_or queues (edge - 1) d).edge.waiting < 2 ^ 32 - 1
+
+-- the list has the node's place
+abbrev pub HasPlace : {A : Type 0} → List A → ℕ → Type 0
+HasPlace xs node = (1 ≤ node) × (node - 1 < length xs)
+
+-- a stage that begins a phase in which it gives so many batches
+abbrev pub in_phase : Stage → Phase → ℕ → Stage
+in_phase st phase count = record st { phase = phase; count = count }

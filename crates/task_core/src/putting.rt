@@ -4,13 +4,15 @@ ghost use Rattle.std.specs.Prelude.{◌≡◌, ◌<◌, ◌-◌, ◌^◌, ◌++�
 ghost use Rattle.std.specs.VecDeque.{deque_len, deque_capacity};
 ghost use Rattle.task_core.specs.declared.queue.Queue.{Queue};
 ghost use Rattle.task_core.specs.declared.stage.Stage.{Stage};
+ghost use Rattle.task_core.specs.declared.stage.NodeInfo.{NodeInfo};
+ghost use Rattle.task_work.specs.declared.work.Waiting.{Waiting};
 ghost use Rattle.plan_machine.specs.After.{is_done};
 ghost use Rattle.plan_machine.specs.declared.entry.Entry.TheVariants as EntryOf;
-ghost use Rattle.task_core.specs.Delivering.{with_less_busy, IsGrown, IsDeparting, HasSeat, HasRoom};
+ghost use Rattle.task_core.specs.Delivering.{with_less_busy, in_phase, IsGrown, IsDeparting, HasPlace, HasSeat, HasRoom};
 
 use crate::queue::Queue;
-use crate::stage::{Flight, Stage};
-use plan_machine::{Entry, Phase};
+use crate::stage::{Flight, NodeInfo, Stage};
+use plan_machine::{Entry, OpShape, Phase};
 use task_work::{Share, Waiting};
 
 /// Whether a node has ended.
@@ -85,4 +87,53 @@ pub fn put_front(queues: &mut Vec<Queue>, edge: u32, waiting: Waiting)
     let queue = &mut queues[(edge - 1) as usize];
     queue.waiting.push_front_reserved(waiting);
     queue.edge.came();
+}
+
+/// Puts the shares of all workers at a node in their place.
+pub fn put_row<O: Drop, S: Drop, L: Drop>(shares: &mut Vec<Vec<Option<Share<O, S, L>>>>, node: u32, row: Vec<Option<Share<O, S, L>>>)
+    requires { HasPlace (map (λ row. row.items) shares.old.items) node }
+    ensures { map (λ row. row.items) shares.new.items ≡ slice_set (map (λ row. row.items) shares.old.items) (node - 1) row.items }
+{
+    shares[(node - 1) as usize] = row;
+}
+
+/// A node begins a phase in which it gives so many batches.
+pub fn begin_phase(stages: &mut Vec<Stage>, node: u32, phase: Phase, count: u64)
+    requires { HasPlace stages.old.items node }
+    ensures { (d : Stage) → stages.new.items ≡ slice_set stages.old.items (node - 1) (in_phase (slice_index_or stages.old.items (node - 1) d) phase count) }
+{
+    let stage = &mut stages[(node - 1) as usize];
+    stage.phase = phase;
+    stage.count = count;
+}
+
+/// What a node does with its inputs.
+pub fn shape_at(infos: &[NodeInfo], node: u32) -> OpShape
+    requires { HasPlace infos.now node }
+    ensures { (d : NodeInfo) → result ≡ (slice_index_or infos.now (node - 1) d).shape }
+{
+    infos[(node - 1) as usize].shape
+}
+
+/// A node's first input.
+pub fn first_input(infos: &[NodeInfo], node: u32) -> u32
+    requires { HasPlace infos.now node }
+    ensures { (d : NodeInfo) → result ≡ (slice_index_or infos.now (node - 1) d).first }
+{
+    infos[(node - 1) as usize].first
+}
+
+/// Puts what is left of a batch, if anything is, before all batches that wait on an edge.
+pub fn put_rest(queues: &mut Vec<Queue>, edge: u32, rest: Option<Waiting>)
+    requires { (w : Waiting) → rest ≡ Some w → HasRoom queues.old.items edge }
+    ensures none { rest ≡ None → queues.new.items ≡ queues.old.items }
+    ensures some {
+        (w : Waiting) (d : Queue) → rest ≡ Some w → (q : Queue)
+        × (queues.new.items ≡ slice_set queues.old.items (edge - 1) q)
+        × IsGrown (slice_index_or queues.old.items (edge - 1) d) (w ∷ (slice_index_or queues.old.items (edge - 1) d).waiting.items) q
+    }
+{
+    if let Some(waiting) = rest {
+        put_front(queues, edge, waiting);
+    }
 }

@@ -1,5 +1,5 @@
 -- What a streamed batch gives, and what is left of it.
-use Rattle.std.proofs.Common.{◌≡◌, ℕ, Bool, List, [], ◌∷◌, ◌++◌, refl, sym, ◌∙◌, ap, ap₂, subst}
+use Rattle.std.proofs.Common.{◌≡◌, ℕ, Bool, true, List, [], ◌∷◌, ◌++◌, refl, sym, ◌∙◌, ap, ap₂, subst}
 use Rattle.std.specs.Prelude.{Option, Some, None, MatchOption, IsTrue}
 use Rattle.std.specs.Arc.{arc_value}
 use Rattle.scalar_value.specs.declared.value.Value.{Value}
@@ -41,7 +41,7 @@ module _ {O S L : Type 0}
 
     abbrev pub Gives : OpMeaning → S → L → BatchValue → ℕ → L → BatchValue → Option ℕ → Type 0
     Gives m s old b from new out next =
-        (inputs : List (List ColType)) (built : List (List Value)) (taken : List (Batch (List Value)))
+        m.shape.streams ≡ true → (inputs : List (List ColType)) (built : List (List Value)) (taken : List (Batch (List Value)))
         → IsTrue (m.fits inputs) → shared_is m inputs s built [] → local_is m (first_of inputs) old taken → b.kinds ≡ first_of inputs
         → local_is m (first_of inputs) new (taken ++ item b from ∷ []) × (out.rows ≡ sent_rows m built b.rows from) × (out.kinds ≡ m.columns inputs) × (next ≡ next_from m built b.rows from)
 
@@ -53,7 +53,7 @@ module _ {O S L : Type 0}
         given : Given v.meaning v.inputs t.built t.took b from new out next
         given =
             let at : Gives v.meaning (arc_value p.shared) p.local b from new out next = subst (λ z. Gives v.meaning z p.local b from new out next) is_shared (subst (λ m. Gives m s p.local b from new out next) (ap meaning is_op ∙ part.is_shared.op) gives) in
-            let g = at v.inputs t.built t.took part.is_shared.fits part.is_shared.shared part.local work.columns in
+            let g = at work.streams v.inputs t.built t.took part.is_shared.fits part.is_shared.shared part.local work.columns in
             record { local = g.0; rows = g.1; kinds = g.2; goes_on = g.3 }
 
         pub streamed_part : IsPart meaning local_is shared_is v (first_of v.inputs) (t.took ++ t.batch ∷ []) t.built [] (record { op = p.op; shared = p.shared; local = new })

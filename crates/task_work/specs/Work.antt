@@ -10,7 +10,7 @@ use Rattle.column_batch.specs.Batches.{BatchValue, kinds_of}
 use Rattle.plan_machine.specs.declared.entry.Job.TheVariants as job
 use Rattle.plan_machine.specs.Batch.{Batch, gathered, marked, piece, parts}
 use Rattle.plan_machine.specs.State.{Task}
-use Rattle.plan_nodes.specs.Operators.{OpMeaning, item, first_of, folded_of, sent_rows, next_from, end_count, end_part, Each, flat}
+use Rattle.plan_nodes.specs.Operators.{OpMeaning, Ends, item, first_of, folded_of, sent_rows, next_from, end_count, end_part, Each, flat}
 use Rattle.task_work.specs.Sites.{Site}
 use Rattle.task_work.specs.declared.work.Part.{Part}
 use Rattle.task_work.specs.declared.work.Share.{Share}
@@ -72,17 +72,13 @@ module _ {O S L : Type 0}
       pub columns : b.kinds ≡ first_of v.inputs
       pub starts : (v.meaning.cuts ≡ true) ⊎ (from ≡ 0)
 
-    -- the operator gives rows at its end, or is read there as a sink
-    abbrev pub Ends : Type 0
-    Ends = (v.meaning.shape.tails ≡ true) ⊎ ((v.meaning.shape.folds ≡ true) × (v.meaning.shape.streams ≡ false))
-
     abbrev pub IsWork : Task (List Value) → Work O S L → Type 0
     IsWork t (work.Emit table number) = (t.job ≡ job.Emit) × IsTable table × (number ≡ t.number) × (number < parts v.batch v.table)
     IsWork t (work.Fold part batch) = (t.job ≡ job.Fold) × IsPart (folded_of v.meaning v.inputs) t.took t.built [] part × IsFolded t batch
     IsWork t (work.Seal row) = (t.job ≡ job.Seal) × IsRow (folded_of v.meaning v.inputs) t.took t.built [] row.items × (1 ≤ v.workers) × (v.meaning.shape.folds ≡ true)
     IsWork t (work.Stream part batch from) = (t.job ≡ job.Stream) × IsPart (first_of v.inputs) t.took t.built [] part × IsStreamed t batch from
     IsWork t (work.Close row) = (t.job ≡ job.Close) × IsRow (first_of v.inputs) t.took t.built [] row.items × (1 ≤ v.workers) × (v.meaning.shape.streams ≡ true) × (v.meaning.shape.tails ≡ true)
-    IsWork t (work.Tail part number) = (t.job ≡ job.Tail) × IsShared t.built t.streamed part × (number ≡ t.number) × Ends × (number < end_count v.meaning t.built t.streamed)
+    IsWork t (work.Tail part number) = (t.job ≡ job.Tail) × IsShared t.built t.streamed part × (number ≡ t.number) × Ends v.meaning × (number < end_count v.meaning t.built t.streamed)
 
     -- ---- what it brings back
     -- a batch of the node's output, with this index where the order is kept
