@@ -43,7 +43,7 @@ not_sealed Stream e = cc
 not_sealed Close e = cc
 not_sealed Tail e = cc
 
-not_done : (job : Job) → phase_of job ≡ Done → ⊥
+pub not_done : (job : Job) → phase_of job ≡ Done → ⊥
 not_done Emit e = cc
 not_done Fold e = cc
 not_done Seal e = cc
@@ -70,7 +70,7 @@ module _ {R : Type 0} (P : Plan R) (s : State R) where
     pub folds : s.phase n ≡ Folding → Offers (folds_from P n) waits ended
     pub streams : s.phase n ≡ Streaming → Offers (streams_from P n) waits ended
 
-  can_phase : (n : ℕ) (job : Job) (k : ℕ) → CanDo P s n job k → s.phase n ≡ phase_of job
+  pub can_phase : (n : ℕ) (job : Job) (k : ℕ) → CanDo P s n job k → s.phase n ≡ phase_of job
   can_phase n Emit k c = c.0
   can_phase n Fold k c = c.0
   can_phase n Seal k c = c.0

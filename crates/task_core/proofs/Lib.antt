@@ -8,9 +8,13 @@ pub mod Seated
 pub mod Resuming
 pub mod Finishing
 pub mod Leaving
-pub mod Landing
 pub mod Rows
+pub mod Landing
 pub mod Delivering
+pub mod Entering
+pub mod Claiming
+pub mod Claimed
+pub mod Working
 pub mod At
 pub mod Tables
 pub mod Outcomes
@@ -24,6 +28,7 @@ pub mod Giving
 pub mod BringEmit
 pub mod Sizes
 pub mod BringTail
+pub mod Works
 pub mod Whole
 pub mod BringSeal
 pub mod BringClose

@@ -6,6 +6,7 @@ pub mod Outcome
 pub mod Due
 pub mod Legal
 pub mod Choosing
+pub mod Claiming
 pub mod Calls
 pub mod Known
 pub mod Delivering

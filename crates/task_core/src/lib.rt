@@ -2,6 +2,7 @@
 #![tactic(auto)]
 
 mod choice;
+mod claim;
 mod infos;
 mod deliver;
 mod putting;
@@ -16,6 +17,7 @@ mod setting;
 mod stage;
 mod stages;
 mod state;
+mod taking;
 mod upkeep;
 
 pub use result::Finished;
