@@ -34,3 +34,4 @@ pub mod BringSeal
 pub mod BringClose
 pub mod Streamed
 pub mod BringStream
+pub mod Pushed

@@ -5,7 +5,7 @@ use Rattle.std.specs.declared.sync.Arc.{Arc}
 use Rattle.std.specs.Arc.{arc_value}
 use Rattle.row_table.specs.Tables.{TableValue}
 use Rattle.task_core.specs.Told.{rows_of_tables}
-use Rattle.std.proofs.Common.{Option, Some, None, ◌≡◌, ℕ, zero, suc, ◌+◌, Bool, true, false, cond, List, [], ◌∷◌, drop, length, refl, sym, ap, ◌∙◌}
+use Rattle.std.proofs.Common.{Option, Some, None, ◌≤◌, arith, ◌≡◌, ℕ, zero, suc, ◌+◌, Bool, true, false, cond, List, [], ◌∷◌, drop, length, refl, sym, ap, ◌∙◌}
 use Rattle.scalar_value.specs.declared.value.Value.{Value}
 use Rattle.plan_machine.specs.Lists.{at_or}
 use Rattle.plan_nodes.specs.declared.node.Node.{Node}
@@ -87,3 +87,7 @@ tables_next nodes ts k taken v vs there so_far =
     ∙ (tables_rest v vs (drop taken ts)
     ∙ (ap (λ us. tables_of vs us) (taken_by (is_source v.kind) taken ts)
     ∙ ap (λ ns. tables_of ns (drop (cond (is_source v.kind) (suc taken) taken) ts)) (sym (drop_one k nodes ∙ ap (λ (ns : List Node). drop 1 ns) there)))))
+
+pub taken_within : (b : Bool) (taken k : ℕ) → taken ≤ k → cond b (suc taken) taken ≤ k + 1
+taken_within true taken k le = omega arith
+taken_within false taken k le = omega arith
