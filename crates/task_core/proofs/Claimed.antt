@@ -88,7 +88,7 @@ module _ {O S L : Type 0}
         let node = can.0.node in
         let d = some_of (f.node - 1) stages (omega arith) in
         let facts : (x : Stage) → (1 ≤ suc (w - 1)) × (suc (w - 1) ≤ length seats) × (1 ≤ suc (f.node - 1)) × (suc (f.node - 1) ≤ length stages) × ((slice_index_or stages (f.node - 1) x).busy < 2 ^ 32 - 1) × (gives_next f.job ≡ true → (slice_index_or stages (f.node - 1) x).next < (slice_index_or stages (f.node - 1) x).count) × (length told.history < capacity) × (flying < 2 ^ 64 - 1)
-            = λ x. entering_at meaning local_is shared_is told.given told.history infos stages queues rows seats failed flying told.room capacity h (w - 1) (f.node - 1) f.job f.number can_at x two in
+        = λ x. entering_at meaning local_is shared_is told.given told.history infos stages queues rows seats failed flying told.room capacity h (w - 1) (f.node - 1) f.job f.number can_at x two in
         record {
           seat = (worker.0, omega arith);
           node = (node.0, omega arith);
@@ -163,12 +163,11 @@ module _ {O S L : Type 0}
         let some : 0 < length (s.waiting e) = subst (λ m. 0 < length (s.waiting m)) (sym is) (some_waits P s f.node f.job f.number takes can.1) in
         let all = h.stored.all_queues in
         let a = node.0 in
-        let b = node.1 in
-        (
+        let b = node.1 in (
           a,
           omega arith,
           (λ d. let q = queue_at e node d in let c = ap length q.items in let m = length-map (slice_index_or queues (e - 1) d).waiting.items waiting_item in let k = (slice_index_or queues (e - 1) d).waiting.ok.0 in omega arith),
-          (λ d. let q = queue_at e node d in let c = q.count in omega arith)
+          (λ d. let q = queue_at e node d in let c = q.count in omega arith),
         )
 
     pub oldest_of : takes_batch f.job ≡ true → (e : ℕ) → e ≡ reads_from (plan_of told.given) f.node ((state_of told).phase f.node) → (first : Waiting) (queues' : List Queue)

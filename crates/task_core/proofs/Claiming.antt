@@ -55,11 +55,11 @@ module _ (P : MachinePlan (List Value)) (s : State (List Value)) (w n : ℕ) whe
 
   batch_is : (job : Job) (k : ℕ) (phase : Phase) → takes_batch job ≡ true → phase ≡ phase_of job
       → claimed P s w n job k
-          ≡ record s {
-              waiting = upd s.waiting (reads_from P n phase) (without k (s.waiting (reads_from P n phase)));
-              locals = upd s.locals n (upd (s.locals n) w []);
-              tasks = upd s.tasks w (Some (task_of s n job k (at_or blank k (s.waiting (reads_from P n phase))) (s.locals n w)));
-            }
+      ≡ record s {
+        waiting = upd s.waiting (reads_from P n phase) (without k (s.waiting (reads_from P n phase)));
+        locals = upd s.locals n (upd (s.locals n) w []);
+        tasks = upd s.tasks w (Some (task_of s n job k (at_or blank k (s.waiting (reads_from P n phase))) (s.locals n w)));
+      }
   batch_is Emit k phase e at = cc
   batch_is Fold k phase e at = rw at refl
   batch_is Seal k phase e at = cc
@@ -303,10 +303,10 @@ module _ {O S L : Type 0}
             standing meaning local_is shared_is g es (Claim (suc q) (suc p) job k) infos infos stages stages' queues queues' rows rows' seats seats' failed failed flying flying' room room' capacity capacity' h can
             (with_most meaning local_is shared_is g (claimed P s (suc q) (suc p) job k) most _ infos stages' queues' rows' seats' failed flying'
             (λ e.
-                let a = peak_covers P es (opening P) e in
-                let b = fewer e in
-                let c = ap (λ (z : State (List Value)). length (z.waiting e)) is in
-                omega arith)
+            let a = peak_covers P es (opening P) e in
+            let b = fewer e in
+            let c = ap (λ (z : State (List Value)). length (z.waiting e)) is in
+            omega arith)
             stored)
             (let f = h.fits in omega arith)
 
@@ -404,8 +404,8 @@ module _ {O S L : Type 0}
             (λ n x ne old. subst (λ w. is n w x) (sym (upd-else s.waiting e (without 0 (s.waiting e)) n ne)) old))
             (row_taken meaning local_is shared_is (site_of g (suc p)) (nat_eq (suc p) P.sink) s.failed (s.phase (suc p)) (s.locals (suc p)) (locals' (suc p)) (s.built (suc p)) (s.streamed (suc p)) s.tasks q (suc p) t (slice_index_or rows p []) row_whole seat_low can.0.free refl
             (λ j ne.
-                ap (λ (l : ℕ → List (Batch (List Value))). l (suc j)) (upd-here s.locals (suc p) (upd (s.locals (suc p)) (suc q) []))
-                ∙ upd-else (s.locals (suc p)) (suc q) [] (suc j) (λ x. ne (omega arith)))
+            ap (λ (l : ℕ → List (Batch (List Value))). l (suc j)) (upd-here s.locals (suc p) (upd (s.locals (suc p)) (suc q) []))
+            ∙ upd-else (s.locals (suc p)) (suc q) [] (suc j) (λ x. ne (omega arith)))
             row_here)
             h.stored)
             more less same

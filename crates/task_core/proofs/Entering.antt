@@ -22,10 +22,8 @@ use Rattle.task_core.specs.declared.stage.Flight.{Flight}
 use Rattle.task_core.specs.Told.{Given, plan_of, site_of}
 use Rattle.task_core.specs.Stored.{Held, Stored, StageIs, QueueIs, SeatIs, goes_on, in_flight, takes_all, AllAway, Away, PartStands, SlotStands, SlotIs, RowIs, is_live}
 use Rattle.task_core.specs.Claiming.{with_task, next_by}
-use Rattle.task_core.proofs.Held.{held_set, held_map}
-
-abbrev pub Tasks : Type 0
-Tasks = ℕ → Option (Task (List Value))
+use Rattle.task_core.proofs.Held.{held_set}
+use Rattle.task_core.proofs.Landing.{Tasks}
 
 -- ---- counts
 
@@ -161,7 +159,7 @@ module _ {O S L : Type 0}
             rows_are =
                 held_set (λ n row. row_at n (s.locals n) ts row) (λ n row. row_at n (locals' n) ts' row) rows p row' st.rows_are row_is
                 (λ n row ne h. subst (λ l. row_at n l ts' row) (sym (else_locals n ne))
-                    (row_more (site_of g n) (nat_eq n P.sink) s.failed (s.phase n) (s.locals n) (s.built n) (s.streamed n) ts (suc q) n t row free h));
+                (row_more (site_of g n) (nat_eq n P.sink) s.failed (s.phase n) (s.locals n) (s.built n) (s.streamed n) ts (suc q) n t row free h));
             seats_are =
                 held_set (λ w x. SeatIs (ts w) x) (λ w x. SeatIs (ts' w) x) seats q (Some f) st.seats_are
                 (subst (λ o. SeatIs o (Some f)) (sym (upd-here ts (suc q) (Some t))) is_seat)

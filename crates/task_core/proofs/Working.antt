@@ -156,11 +156,10 @@ flat_lists f j (suc n) = (let e : j + suc n ≡ suc j + n = omega arith in ap (�
 each_list : {A B : Type 0} (R : A → List B → Type 0) (f : ℕ → List B) (d : A) (row : List A) (j : ℕ) → ((k : ℕ) → k < length row → R (slice_index_or row k d) (f (suc (j + k)))) → Each R row (lists_from f j (length row))
 unfolding lists_from
 each_list R f d [] j h = tt
-each_list R f d (x ∷ xs) j h =
-    (
-      subst (λ m. R x (f (suc m))) (let e : j + 0 ≡ j = omega arith in e) (h 0 (omega arith)),
-      each_list R f d xs (suc j) (λ k lt. subst (λ m. R (slice_index_or xs k d) (f (suc m))) (let e : j + suc k ≡ suc j + k = omega arith in e) (h (suc k) (omega arith)))
-    )
+each_list R f d (x ∷ xs) j h = (
+  subst (λ m. R x (f (suc m))) (let e : j + 0 ≡ j = omega arith in e) (h 0 (omega arith)),
+  each_list R f d xs (suc j) (λ k lt. subst (λ m. R (slice_index_or xs k d) (f (suc m))) (let e : j + suc k ≡ suc j + k = omega arith in e) (h (suc k) (omega arith))),
+)
 
 true_or_false : (b : Bool) → (b ≡ true) ⊎ (b ≡ false)
 true_or_false true = inl refl
@@ -265,10 +264,10 @@ module _ {O S L : Type 0}
         record {
           lists = lists_from f 0 (length row);
           parts = each_list (IsPartOf meaning local_is shared_is (site_of told.given n) kinds ((state_of told).built n) []) f None row 0
-            (λ k lt.
-                let size = h.size in
-                subst (λ m. IsPartOf meaning local_is shared_is (site_of told.given n) kinds ((state_of told).built n) [] (slice_index_or row k None) (f (suc m))) (let e : k ≡ 0 + k = omega arith in e)
-                (part (suc k) (slice_index_or row k None) (h.each k (omega arith))));
+              (λ k lt.
+              let size = h.size in
+              subst (λ m. IsPartOf meaning local_is shared_is (site_of told.given n) kinds ((state_of told).built n) [] (slice_index_or row k None) (f (suc m))) (let e : k ≡ 0 + k = omega arith in e)
+              (part (suc k) (slice_index_or row k None) (h.each k (omega arith))));
           all =
               let flats : gather (0 + length row) f ≡ flat (lists_from f 0 (length row)) = flat_lists f 0 (length row) in
               sym flats ∙ (let size = h.size in let e : 0 + length row ≡ P.workers = omega arith in ap (λ m. gather m f) e);
@@ -298,13 +297,16 @@ module _ {O S L : Type 0}
         let x = table_there w n can.1.0 slot h in
         let e = sym x.1 ∙ is in
         let same : x.0 ≡ table = cc in
-        let fits = can.1.2 in
-        (
+        let fits = can.1.2 in (
           task_of s n job.Emit k blank [],
           flies w n k job.Emit (task_of s n job.Emit k blank []) refl,
           refl,
-          (refl, subst (λ t. IsTable meaning local_is shared_is (site_of told.given n) t) same x.2, refl,
-           subst (λ m. k < parts m (site_of told.given n).table) a.batch (subst (λ rows. k < parts (plan_of told.given).batch rows) a.table fits))
+          (
+            refl,
+            subst (λ t. IsTable meaning local_is shared_is (site_of told.given n) t) same x.2,
+            refl,
+            subst (λ m. k < parts m (site_of told.given n).table) a.batch (subst (λ rows. k < parts (plan_of told.given).batch rows) a.table fits),
+          ),
         )
 
     pub tail_work : (w n k : ℕ) → Enabled (plan_of told.given) (state_of told) (Claim w n job.Tail k)
@@ -319,14 +321,18 @@ module _ {O S L : Type 0}
         let e = sym x.1 ∙ is in
         let same : x.0 ≡ part = cc in
         let tails = sym a.tails ∙ (known P lawful well told.history legal can.0.sound).tailing n can.0.node can.1.0 in
-        let size : size_of (site_of told.given n).meaning ≡ P.batch = ap size_of a.meaning ∙ sized (node_at told.given.nodes n).kind (input_kinds told.given.nodes (node_at told.given.nodes n)) told.given.pace.batch (sym (ap (λ m. m.shape.tails) a.meaning) ∙ tails) in
-        (
+        let size : size_of (site_of told.given n).meaning ≡ P.batch = ap size_of a.meaning ∙ sized (node_at told.given.nodes n).kind (input_kinds told.given.nodes (node_at told.given.nodes n)) told.given.pace.batch (sym (ap (λ m. m.shape.tails) a.meaning) ∙ tails) in (
           task_of s n job.Tail k blank [],
           flies w n k job.Tail (task_of s n job.Tail k blank []) refl,
           refl,
-          (refl, subst (λ p. IsShared meaning local_is shared_is (site_of told.given n) (s.built n) (s.streamed n) p) same x.2, refl, inl tails,
-           subst (λ m. k < part_count_of (length ((site_of told.given n).meaning.rest (s.built n) (rows_of (s.streamed n)))) m) (sym size)
-           (subst (λ (r : List (List Value) → List (List Value) → List (List Value)). k < part_count_of (length (r (s.built n) (rows_of (s.streamed n)))) P.batch) a.rest can.1.2))
+          (
+            refl,
+            subst (λ p. IsShared meaning local_is shared_is (site_of told.given n) (s.built n) (s.streamed n) p) same x.2,
+            refl,
+            inl tails,
+            subst (λ m. k < part_count_of (length ((site_of told.given n).meaning.rest (s.built n) (rows_of (s.streamed n)))) m) (sym size)
+                (subst (λ (r : List (List Value) → List (List Value) → List (List Value)). k < part_count_of (length (r (s.built n) (rows_of (s.streamed n)))) P.batch) a.rest can.1.2),
+          ),
         )
 
     module _ (n : ℕ) (node : IsNode (plan_of told.given) n) (sound : (state_of told).failed ≡ false) where
@@ -417,11 +423,10 @@ module _ {O S L : Type 0}
       -- the batch that was taken, on the edge that the phase reads
       taken_on : (e : ℕ) (x : Waiting) → reads_from (plan_of told.given) n ((state_of told).phase n) ≡ e → IsOldest told n x
           → (waiting_item x ≡ at_or blank 0 ((state_of told).waiting e)) × IsWaiting (site_of told.given e).columns (goes_on (plan_of told.given) e) x
-      taken_on e x is o =
-          (
-            subst (λ m. waiting_item x ≡ at_or blank 0 ((state_of told).waiting m)) is o.item,
-            subst (λ m. IsWaiting (site_of told.given m).columns (goes_on (plan_of told.given) m) x) is o.stands
-          )
+      taken_on e x is o = (
+        subst (λ m. waiting_item x ≡ at_or blank 0 ((state_of told).waiting m)) is o.item,
+        subst (λ m. IsWaiting (site_of told.given m).columns (goes_on (plan_of told.given) m) x) is o.stands,
+      )
 
       is_folded : (w k : ℕ) → k ≡ 0 → (state_of told).phase n ≡ Folding → (x : Waiting) → IsOldest told n x
           → IsFolded meaning local_is shared_is (site_of told.given n) (task_of (state_of told) n job.Fold k (at_or blank k ((state_of told).waiting (folds_from (plan_of told.given) n))) ((state_of told).locals n w)) x.batch
@@ -460,13 +465,15 @@ module _ {O S L : Type 0}
         let y = folded_there w n can.1.0 slot h in
         let e = sym y.1 ∙ is in
         let same : y.0 ≡ part = cc in
-        let t = task_of s n job.Fold k (at_or blank k (s.waiting (folds_from (plan_of told.given) n))) (s.locals n w) in
-        (
+        let t = task_of s n job.Fold k (at_or blank k (s.waiting (folds_from (plan_of told.given) n))) (s.locals n w) in (
           t,
           flies w n k job.Fold t refl,
           refl,
-          (refl, subst (λ p. IsPart meaning local_is shared_is (site_of told.given n) (folded_of (site_of told.given n).meaning (site_of told.given n).inputs) (s.locals n w) (s.built n) [] p) same y.2,
-           is_folded n can.0.node can.0.sound w k zero_is can.1.0 x o)
+          (
+            refl,
+            subst (λ p. IsPart meaning local_is shared_is (site_of told.given n) (folded_of (site_of told.given n).meaning (site_of told.given n).inputs) (s.locals n w) (s.built n) [] p) same y.2,
+            is_folded n can.0.node can.0.sound w k zero_is can.1.0 x o,
+          ),
         )
 
     pub stream_work : (w n k : ℕ) → k ≡ 0 → Enabled (plan_of told.given) (state_of told) (Claim w n job.Stream k)
@@ -478,13 +485,15 @@ module _ {O S L : Type 0}
         let y = streamed_there w n can.1.0 slot h in
         let e = sym y.1 ∙ is in
         let same : y.0 ≡ part = cc in
-        let t = task_of s n job.Stream k (at_or blank k (s.waiting (streams_from (plan_of told.given) n))) (s.locals n w) in
-        (
+        let t = task_of s n job.Stream k (at_or blank k (s.waiting (streams_from (plan_of told.given) n))) (s.locals n w) in (
           t,
           flies w n k job.Stream t refl,
           refl,
-          (refl, subst (λ p. IsPart meaning local_is shared_is (site_of told.given n) (first_of (site_of told.given n).inputs) (s.locals n w) (s.built n) [] p) same y.2,
-           is_streamed n can.0.node can.0.sound w k zero_is can.1.0 x o)
+          (
+            refl,
+            subst (λ p. IsPart meaning local_is shared_is (site_of told.given n) (first_of (site_of told.given n).inputs) (s.locals n w) (s.built n) [] p) same y.2,
+            is_streamed n can.0.node can.0.sound w k zero_is can.1.0 x o,
+          ),
         )
 
     pub seal_work : (w n k : ℕ) → Enabled (plan_of told.given) (state_of told) (Claim w n job.Seal k)
@@ -493,12 +502,11 @@ module _ {O S L : Type 0}
         → IsWorkOf meaning local_is shared_is (with_entry told (Claim w n job.Seal k) 2) w n (work.Seal row)
     seal_work w n k can row h =
         let s = state_of told in
-        let t = task_of s n job.Seal k blank (gather (plan_of told.given).workers (s.locals n)) in
-        (
+        let t = task_of s n job.Seal k blank (gather (plan_of told.given).workers (s.locals n)) in (
           t,
           flies w n k job.Seal t refl,
           refl,
-          (refl, row_is n (folded_of (site_of told.given n).meaning (site_of told.given n).inputs) row.items h (λ j slot x. folded_part n j slot can.1.0 x), some_workers w n can.0.worker, folds_here n can.0.node can.0.sound can.1.0)
+          (refl, row_is n (folded_of (site_of told.given n).meaning (site_of told.given n).inputs) row.items h (λ j slot x. folded_part n j slot can.1.0 x), some_workers w n can.0.worker, folds_here n can.0.node can.0.sound can.1.0),
         )
 
     pub close_work : (w n k : ℕ) → Enabled (plan_of told.given) (state_of told) (Claim w n job.Close k)
@@ -507,10 +515,9 @@ module _ {O S L : Type 0}
         → IsWorkOf meaning local_is shared_is (with_entry told (Claim w n job.Close k) 2) w n (work.Close row)
     close_work w n k can row h =
         let s = state_of told in
-        let t = task_of s n job.Close k blank (gather (plan_of told.given).workers (s.locals n)) in
-        (
+        let t = task_of s n job.Close k blank (gather (plan_of told.given).workers (s.locals n)) in (
           t,
           flies w n k job.Close t refl,
           refl,
-          (refl, row_is n (first_of (site_of told.given n).inputs) row.items h (λ j slot x. streamed_part n j slot can.1.0 x), some_workers w n can.0.worker, streams_here n can.0.node can.0.sound can.1.0, sym (alike told.given n).tails ∙ can.1.4)
+          (refl, row_is n (first_of (site_of told.given n).inputs) row.items h (λ j slot x. streamed_part n j slot can.1.0 x), some_workers w n can.0.worker, streams_here n can.0.node can.0.sound can.1.0, sym (alike told.given n).tails ∙ can.1.4),
         )

@@ -56,9 +56,9 @@ module _ {O S L : Type 0}
 
       least : (j : Job) → f.job ≡ j → Enabled (plan_of told.given) (state_of told) (Claim w f.node j 0) → f.number ≡ 0
       least j e can = elim (chosen.1 f.node j 0 can) [
-          | inl lt ↦ absurd (omega arith)
-          | inr x ↦ elim x.1 [ inl lt ↦ (let same = ap place_of e in absurd (omega arith)) | inr y ↦ (let z = y.1 in omega arith) ]
-        ]
+        | inl lt ↦ absurd (omega arith)
+        | inr x ↦ elim x.1 [ inl lt ↦ (let same = ap place_of e in absurd (omega arith)) | inr y ↦ (let z = y.1 in omega arith) ]
+      ]
 
       pub fold_first : f.job ≡ job.Fold → f.number ≡ 0
       fold_first e = let c = can_as job.Fold e in least job.Fold e (c.0, (c.1.0, let k = c.1.1 in omega arith))

@@ -112,5 +112,5 @@ module _ {O S L : Type 0}
 pub record IsOldest (told : Told) (node : ℕ) (w : Waiting) : Type 0 where
   pub item : waiting_item w ≡ at_or blank 0 ((state_of told).waiting (reads_from (plan_of told.given) node ((state_of told).phase node)))
   pub stands :
-    IsWaiting (site_of told.given (reads_from (plan_of told.given) node ((state_of told).phase node))).columns
-    (goes_on (plan_of told.given) (reads_from (plan_of told.given) node ((state_of told).phase node))) w
+      IsWaiting (site_of told.given (reads_from (plan_of told.given) node ((state_of told).phase node))).columns
+      (goes_on (plan_of told.given) (reads_from (plan_of told.given) node ((state_of told).phase node))) w

@@ -61,14 +61,30 @@ impl<O: Operator> PlanState<O> {
         ensures share { IsShareOf O.meaning O.local_is O.shared_is self.old worker flight.node result }
     {
         let _room = self.room;
-        let share = take_share(&mut self.shares, (flight.node - 1) as usize, (worker - 1) as usize);
-        enter(&mut self.seats, &mut self.stages, &mut self.history, &mut self.flying, worker, flight);
+        let share = take_share(
+            &mut self.shares,
+            (flight.node - 1) as usize,
+            (worker - 1) as usize,
+        );
+        enter(
+            &mut self.seats,
+            &mut self.stages,
+            &mut self.history,
+            &mut self.flying,
+            worker,
+            flight,
+        );
         self.room -= 2;
         share
     }
 
     /// Claims a job that takes the oldest batch of an edge, and takes the worker's share of its node.
-    fn take_batch(&mut self, worker: u32, flight: Flight, edge: u32) -> (Option<Share<O, O::Shared, O::Local>>, Waiting)
+    fn take_batch(
+        &mut self,
+        worker: u32,
+        flight: Flight,
+        edge: u32,
+    ) -> (Option<Share<O, O::Shared, O::Local>>, Waiting)
         requires takes { takes_batch flight.job ≡ true }
         requires oldest { flight.number ≡ 0 }
         requires edge { edge ≡ reads_from (plan_of self.old.given) flight.node ((state_of self.old).phase flight.node) }
@@ -79,15 +95,30 @@ impl<O: Operator> PlanState<O> {
         ensures waiting { IsOldest self.old flight.node result.1 }
     {
         let _room = self.room;
-        let share = take_share(&mut self.shares, (flight.node - 1) as usize, (worker - 1) as usize);
+        let share = take_share(
+            &mut self.shares,
+            (flight.node - 1) as usize,
+            (worker - 1) as usize,
+        );
         let waiting = take_front(&mut self.queues, (edge - 1) as usize);
-        enter(&mut self.seats, &mut self.stages, &mut self.history, &mut self.flying, worker, flight);
+        enter(
+            &mut self.seats,
+            &mut self.stages,
+            &mut self.history,
+            &mut self.flying,
+            worker,
+            flight,
+        );
         self.room -= 2;
         (share, waiting)
     }
 
     /// Claims a job that puts all workers' parts together, and takes their shares of its node.
-    fn take_all(&mut self, worker: u32, flight: Flight) -> Vec<Option<Share<O, O::Shared, O::Local>>>
+    fn take_all(
+        &mut self,
+        worker: u32,
+        flight: Flight,
+    ) -> Vec<Option<Share<O, O::Shared, O::Local>>>
         requires all { takes_all flight.job ≡ true }
         requires enabled { Enabled (plan_of self.old.given) (state_of self.old) (Entry.Claim worker flight.node flight.job flight.number) }
         requires room { 2 ≤ self.old.room }
@@ -96,7 +127,14 @@ impl<O: Operator> PlanState<O> {
     {
         let _room = self.room;
         let row = take_row(&mut self.shares, (flight.node - 1) as usize);
-        enter(&mut self.seats, &mut self.stages, &mut self.history, &mut self.flying, worker, flight);
+        enter(
+            &mut self.seats,
+            &mut self.stages,
+            &mut self.history,
+            &mut self.flying,
+            worker,
+            flight,
+        );
         self.room -= 2;
         row
     }
@@ -113,23 +151,40 @@ impl<O: Operator> PlanState<O> {
         match flight.job {
             Job::Emit => {
                 let share = self.take_one(worker, flight);
-                Work::Emit { table: table_of(share), number }
+                Work::Emit {
+                    table: table_of(share),
+                    number,
+                }
             }
             Job::Fold => {
                 let edge = self.input(flight.node);
                 let (share, Waiting { batch, from: _ }) = self.take_batch(worker, flight, edge);
-                Work::Fold { part: part_of(share), batch }
+                Work::Fold {
+                    part: part_of(share),
+                    batch,
+                }
             }
-            Job::Seal => Work::Seal { row: self.take_all(worker, flight) },
+            Job::Seal => Work::Seal {
+                row: self.take_all(worker, flight),
+            },
             Job::Stream => {
                 let edge = self.input(flight.node);
                 let (share, Waiting { batch, from }) = self.take_batch(worker, flight, edge);
-                Work::Stream { part: part_of(share), batch, from }
+                Work::Stream {
+                    part: part_of(share),
+                    batch,
+                    from,
+                }
             }
-            Job::Close => Work::Close { row: self.take_all(worker, flight) },
+            Job::Close => Work::Close {
+                row: self.take_all(worker, flight),
+            },
             Job::Tail => {
                 let share = self.take_one(worker, flight);
-                Work::Tail { part: part_of(share), number }
+                Work::Tail {
+                    part: part_of(share),
+                    number,
+                }
             }
         }
     }
@@ -163,7 +218,12 @@ impl<O: Operator> PlanState<O> {
                 let kept = self.is_kept(node);
                 let batch = self.batch_rows();
                 let work = self.take_work(worker, flight);
-                Some(Task { node, kept, batch, work })
+                Some(Task {
+                    node,
+                    kept,
+                    batch,
+                    work,
+                })
             }
             None => None,
         }

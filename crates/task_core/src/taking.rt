@@ -46,27 +46,37 @@ pub fn enter(
     stage.next = next_after(stage, job);
     stage.busy += 1;
     seats[(worker - 1) as usize] = Some(flight);
-    history.push_reserved(Entry::Claim { worker, node, job, batch: number });
+    history.push_reserved(Entry::Claim {
+        worker,
+        node,
+        job,
+        batch: number,
+    });
     *flying += 1;
 }
 
 /// Takes a worker's share of a node.
-pub fn take_share<O: Drop, S: Drop, L: Drop>(shares: &mut Vec<Vec<Option<Share<O, S, L>>>>, place: usize, seat: usize) -> Option<Share<O, S, L>>
+pub fn take_share<O: Drop, S: Drop, L: Drop>(
+    shares: &mut Vec<Vec<Option<Share<O, S, L>>>>,
+    place: usize,
+    seat: usize,
+) -> Option<Share<O, S, L>>
     requires place { place < vec_len shares.old }
     requires seat { (d : List (Option (Share O S L))) → seat < length (slice_index_or (map (λ row. row.items) shares.old.items) place d) }
     ensures taken { (d : List (Option (Share O S L))) → result ≡ slice_index_or (slice_index_or (map (λ row. row.items) shares.old.items) place d) seat None }
-    ensures left {
-        (d : List (Option (Share O S L)))
+    ensures left { (d : List (Option (Share O S L)))
         → map (λ row. row.items) shares.new.items
-            ≡ slice_set (map (λ row. row.items) shares.old.items) place (slice_set (slice_index_or (map (λ row. row.items) shares.old.items) place d) seat None)
-    }
+        ≡ slice_set (map (λ row. row.items) shares.old.items) place (slice_set (slice_index_or (map (λ row. row.items) shares.old.items) place d) seat None) }
 {
     let row = &mut shares[place];
     row[seat].take()
 }
 
 /// Takes the shares of all workers of a node.
-pub fn take_row<O: Drop, S: Drop, L: Drop>(shares: &mut Vec<Vec<Option<Share<O, S, L>>>>, place: usize) -> Vec<Option<Share<O, S, L>>>
+pub fn take_row<O: Drop, S: Drop, L: Drop>(
+    shares: &mut Vec<Vec<Option<Share<O, S, L>>>>,
+    place: usize,
+) -> Vec<Option<Share<O, S, L>>>
     requires { place < vec_len shares.old }
     ensures taken { (d : List (Option (Share O S L))) → result.items ≡ slice_index_or (map (λ row. row.items) shares.old.items) place d }
     ensures left { map (λ row. row.items) shares.new.items ≡ slice_set (map (λ row. row.items) shares.old.items) place [] }
@@ -81,11 +91,9 @@ pub fn take_front(queues: &mut Vec<Queue>, place: usize) -> Waiting
     requires place { place < vec_len queues.old }
     requires some { (d : Queue) → 0 < deque_len (slice_index_or queues.old.items place d).waiting }
     requires count { (d : Queue) → 0 < (slice_index_or queues.old.items place d).edge.waiting }
-    ensures {
-        (d : Queue) → (q : Queue)
+    ensures { (d : Queue) → (q : Queue)
         × (queues.new.items ≡ slice_set queues.old.items place q)
-        × IsShortened (slice_index_or queues.old.items place d) result q
-    }
+        × IsShortened (slice_index_or queues.old.items place d) result q }
 {
     let queue = &mut queues[place];
     queue.edge.went();
