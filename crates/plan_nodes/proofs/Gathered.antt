@@ -1,20 +1,16 @@
 -- Batches that are put one behind another and in the order of their indexes.
-use Rattle.std.proofs.Common.{◌≡◌, ℕ, ◌+◌, ◌-◌, ◌<◌, ◌≤◌, Bool, true, false, cond, nat_lt, ◌&&◌, List, [], ◌∷◌, ◌++◌, length, map, take, drop, min, refl, sym, ◌∙◌, ap, arith, append_assoc, append-nil, IsTrue}
+use Rattle.std.proofs.Common.{◌≡◌, ℕ, true, false, cond, nat_lt, List, [], ◌∷◌, ◌++◌, refl, sym, ◌∙◌, ap, arith, append_assoc, append-nil}
 use Rattle.std.specs.declared.cmp.Ordering.{Ordering}
-use Rattle.std.specs.declared.cmp.Ordering.TheVariants.{Less, Equal, Greater}
 use Rattle.std.specs.Ordering.{is_gt, nat_cmp}
 use Rattle.std.specs.Cmp.{IsTotalOrder}
 use Rattle.std.specs.List.Sorted.{IsSorted, IsStable}
 use Rattle.std.proofs.lemmas.Cmp.{nat_cmp_total}
 use Rattle.std.proofs.lemmas.Bool.Decides.{nat_tests}
-use Rattle.scalar_value.specs.declared.value.Value.{Value}
-use Rattle.scalar_value.specs.declared.value.ColType.{ColType}
 use Rattle.row_table.specs.Sorting.{insert_by, sorted_by}
 use Rattle.row_table.proofs.Stable.{sorted_by-only}
-use Rattle.plan_machine.specs.Batch.{Batch, key_of, key, insert_batch, sort_batches, rows_of, gathered}
-use Rattle.column_batch.specs.Batches.{BatchValue, fit_kinds}
-use Rattle.column_batch.proofs.Fitting.{fit_kinds-append}
-use Rattle.plan_nodes.specs.Operators.{flat, item, Each}
+use Rattle.plan_machine.specs.Batch.{key_of, insert_batch, sort_batches, rows_of}
+use Rattle.column_batch.specs.Batches.{BatchValue}
+use Rattle.plan_nodes.specs.Operators.{flat, item}
 use Rattle.plan_nodes.specs.Examples.{bare}
 
 pub flat-push : {A : Type 0} (xs : List (List A)) (x : List A) → flat (xs ++ x ∷ []) ≡ flat xs ++ x

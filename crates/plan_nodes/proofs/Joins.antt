@@ -53,7 +53,7 @@ rows-same : (j : JoinSpec) (right : List ColType) (b c xs : List (List Value)) �
 rows-same j right b c xs same = λ h.
     weigh-flat_map h (row_of j right b) xs
     ∙ weigh-same (λ x. weigh h (row_of j right b x)) (λ x. weigh h (row_of j right c x)) xs
-      (λ x. row-same j.kind right x (filter (rows_match (matching j) x) b) (filter (rows_match (matching j) x) c) (filter-same (rows_match (matching j) x) b c same) h)
+    (λ x. row-same j.kind right x (filter (rows_match (matching j) x) b) (filter (rows_match (matching j) x) c) (filter-same (rows_match (matching j) x) b c same) h)
     ∙ sym (weigh-flat_map h (row_of j right c) xs)
 
 abbrev is_unmatched : JoinSpec → List (List Value) → List Value → Bool

@@ -7,8 +7,9 @@ pub mod Sinks
 pub mod Sources
 pub mod EachKind
 pub mod Inputs
-
 pub mod Placed
 pub mod Example
 pub mod Gathered
 pub mod Parts
+pub mod JoinFits
+pub mod JoinParts

@@ -1,5 +1,5 @@
 -- Parts that keep the batches that they took.
-use Rattle.std.proofs.Common.{◌≡◌, ℕ, ◌⊎◌, inl, inr, Bool, true, false, cond, nat_lt, ◌&&◌, List, [], ◌∷◌, ◌++◌, map, refl, sym, ◌∙◌, ap, ap₂, arith, IsTrue}
+use Rattle.std.proofs.Common.{◌≡◌, ℕ, ◌⊎◌, inl, inr, Bool, true, false, cond, nat_lt, ◌&&◌, List, [], ◌∷◌, ◌++◌, refl, sym, ◌∙◌, ap, ap₂, IsTrue}
 use Rattle.std.proofs.lemmas.List.{map-append}
 use Rattle.scalar_value.specs.declared.value.Value.{Value}
 use Rattle.scalar_value.specs.declared.value.ColType.{ColType}
@@ -14,18 +14,20 @@ have-append kinds [] ys h k = k
 have-append kinds (x ∷ xs) ys h k = (h.0, h.1, have-append kinds xs ys h.2 k)
 
 pub keeps-push : (kinds : List ColType) (part : List BatchValue) (taken : List (Batch (List Value))) (b : BatchValue) (from : ℕ) → Keeps kinds part taken → b.kinds ≡ kinds → IsTrue (fit_kinds b.kinds b.rows) → Keeps kinds (part ++ b ∷ []) (taken ++ item b from ∷ [])
-keeps-push kinds part taken b from keeps same fit =
-    (map-append {A = Batch (List Value)} (λ t. record t { from = 0 }) taken (item b from ∷ []) ∙ ap (λ zs. zs ++ item b 0 ∷ []) keeps.0 ∙ sym (map-append (λ x. item x 0) part (b ∷ [])),
-    have-append kinds part (b ∷ []) keeps.1 (same, rw (← same) fit, tt))
+keeps-push kinds part taken b from keeps same fit = (
+  map-append {A = Batch (List Value)} (λ t. record t { from = 0 }) taken (item b from ∷ []) ∙ ap (λ zs. zs ++ item b 0 ∷ []) keeps.0 ∙ sym (map-append (λ x. item x 0) part (b ∷ [])),
+  have-append kinds part (b ∷ []) keeps.1 (same, rw (← same) fit, tt),
+)
 
 pub keeps-flat : (kinds : List ColType) (parts : List (List BatchValue)) (lists : List (List (Batch (List Value)))) → Each (Keeps kinds) parts lists → Keeps kinds (flat parts) (flat lists)
 keeps-flat kinds [] [] each = (refl, tt)
 keeps-flat kinds [] (ts ∷ lists) each = absurd each
 keeps-flat kinds (p ∷ parts) [] each = absurd each
 keeps-flat kinds (p ∷ parts) (ts ∷ lists) each =
-    let rest = keeps-flat kinds parts lists each.1 in
-    (map-append {A = Batch (List Value)} (λ t. record t { from = 0 }) ts (flat lists) ∙ ap₂ (λ xs ys. xs ++ ys) each.0.0 rest.0 ∙ sym (map-append (λ x. item x 0) p (flat parts)),
-    have-append kinds p (flat parts) each.0.1 rest.1)
+    let rest = keeps-flat kinds parts lists each.1 in (
+      map-append {A = Batch (List Value)} (λ t. record t { from = 0 }) ts (flat lists) ∙ ap₂ (λ xs ys. xs ++ ys) each.0.0 rest.0 ∙ sym (map-append (λ x. item x 0) p (flat parts)),
+      have-append kinds p (flat parts) each.0.1 rest.1,
+    )
 
 rows-front : (ts : List (Batch (List Value))) → rows_of (from_front ts) ≡ rows_of ts
 rows-front [] = refl
@@ -50,14 +52,14 @@ pub keeps-gathered : (kinds : List ColType) (part : List BatchValue) (taken : Li
 unfolding gathered
 keeps-gathered kinds part taken keeps = ap (λ xs. rows_of (sort_batches xs)) (sym keeps.0) ∙ ap rows_of (sort-front taken) ∙ rows-front (sort_batches taken)
 
-both-true : (a b : Bool) → a ≡ true → b ≡ true → (a && b) ≡ true
+pub both-true : (a b : Bool) → a ≡ true → b ≡ true → (a && b) ≡ true
 both-true a b p q = rw p q
 
-left-true : (a b : Bool) → (a && b) ≡ true → a ≡ true
+pub left-true : (a b : Bool) → (a && b) ≡ true → a ≡ true
 left-true true b h = refl
 left-true false b h = h
 
-right-true : (a b : Bool) → (a && b) ≡ true → b ≡ true
+pub right-true : (a b : Bool) → (a && b) ≡ true → b ≡ true
 right-true true b h = h
 right-true false b h = absurd (cc)
 

@@ -32,12 +32,12 @@ module _ (nodes : List Node) (tables : List (List (List Value))) (pace : Pace) w
       elim is.mark [
         | inl source ↦ absurd (cc)
         | inr m ↦ elim m [
-            | inl none ↦ absurd (let e = ap is_kept none in cc)
-            | inr by ↦
-                let e : (node_at nodes n).mark ≡ (node_at nodes (input_at (node_at nodes n).inputs 0)).mark =
-                  by ∙ keeps (input_marks nodes (node_at nodes n)) ∙ first-marked (λ e. (node_at nodes e).mark) (node_at nodes n).inputs one in
-                sym (ap is_kept e) ∙ kept
-          ]
+          | inl none ↦ absurd (let e = ap is_kept none in cc)
+          | inr by ↦
+              let e : (node_at nodes n).mark ≡ (node_at nodes (input_at (node_at nodes n).inputs 0)).mark =
+              by ∙ keeps (input_marks nodes (node_at nodes n)) ∙ first-marked (λ e. (node_at nodes e).mark) (node_at nodes n).inputs one in
+              sym (ap is_kept e) ∙ kept
+        ]
       ]
 
   -- a node whose kind has no mark is unordered
@@ -46,9 +46,9 @@ module _ (nodes : List Node) (tables : List (List (List Value))) (pace : Pace) w
       elim is.mark [
         | inl source ↦ absurd (cc)
         | inr m ↦ elim m [
-            | inl e ↦ ap is_kept e
-            | inr by ↦ ap is_kept (by ∙ none (input_marks nodes (node_at nodes n)))
-          ]
+          | inl e ↦ ap is_kept e
+          | inr by ↦ ap is_kept (by ∙ none (input_marks nodes (node_at nodes n)))
+        ]
       ]
 
   join-unmarked : (n : ℕ) → IsNodeOf nodes n (node_at nodes n) → is_join (node_at nodes n).kind ≡ true → is_kept (node_at nodes n).mark ≡ false
@@ -73,9 +73,9 @@ module _ (nodes : List Node) (tables : List (List (List Value))) (pace : Pace) w
       elim (bool-cases (is_source (node_at nodes n).kind)) [
         | inl source ↦ inl (source-emits (is_source (node_at nodes n).kind) (the_meaning n).shape source)
         | inr no_source ↦ inr (elim (bool-cases (the_meaning n).shape.folds) [
-            | inl folds ↦ inl (folds-first (is_source (node_at nodes n).kind) (the_meaning n).shape no_source folds)
-            | inr streams ↦ inr (streams-first (is_source (node_at nodes n).kind) (the_meaning n).shape no_source streams)
-          ])
+          | inl folds ↦ inl (folds-first (is_source (node_at nodes n).kind) (the_meaning n).shape no_source folds)
+          | inr streams ↦ inr (streams-first (is_source (node_at nodes n).kind) (the_meaning n).shape no_source streams)
+        ])
       ]
 
   first-at : (n : ℕ) → IsNodeOf nodes n (node_at nodes n) → (IsSource (plan.node n) → ⊥) → IsInput plan n (plan.node n).first
@@ -84,9 +84,9 @@ module _ (nodes : List Node) (tables : List (List (List Value))) (pace : Pace) w
       elim (bool-cases (is_source (node_at nodes n).kind)) [
         | inl source ↦ absurd (no_source (source-emits (is_source (node_at nodes n).kind) (the_meaning n).shape source))
         | inr other ↦ is-input n (input_at (node_at nodes n).inputs 0) is (elim (bool-cases (is_join (node_at nodes n).kind)) [
-            | inl join ↦ first-of-two (node_at nodes n).inputs (two-inputs n is join)
-            | inr no_join ↦ first-in (node_at nodes n).inputs (one-input n is other no_join)
-          ])
+          | inl join ↦ first-of-two (node_at nodes n).inputs (two-inputs n is join)
+          | inr no_join ↦ first-in (node_at nodes n).inputs (one-input n is other no_join)
+        ])
       ]
 
   second-at : (n : ℕ) → IsNodeOf nodes n (node_at nodes n) → IsJoin (plan.node n) → IsInput plan n (plan.node n).second

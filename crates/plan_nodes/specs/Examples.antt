@@ -6,7 +6,8 @@ use Rattle.row_table.specs.declared.join.JoinKind.TheVariants.{Full}
 use Rattle.plan_machine.specs.Batch.{Batch, rows_of}
 use Rattle.column_batch.specs.Batches.{BatchValue, fit_kinds}
 use Rattle.plan_nodes.specs.declared.node.JoinSpec.{JoinSpec}
-use Rattle.plan_nodes.specs.Operators.{item}
+use Rattle.plan_nodes.specs.Operators.{OpMeaning, second_of, item}
+use Rattle.plan_nodes.specs.Kinds.{join_meaning}
 
 -- a full join by the first column of each input, in which missing values don't match
 abbrev pub by_first : JoinSpec
@@ -32,3 +33,11 @@ Keeps kinds part taken = (from_front taken ≡ bare part) × HaveKinds kinds par
 abbrev pub first_kinds : List BatchValue → List ColType
 first_kinds [] = []
 first_kinds (b ∷ bs) = b.kinds
+
+abbrev pub first_join : List ColType → List ColType → ℕ → OpMeaning
+first_join left right size = join_meaning by_first left right size
+
+-- A shared part that holds the gathered rows and those that come at the end.
+abbrev pub Holds : OpMeaning → List (List ColType) → List (List Value) → List (List Value) → List (List Value) → List (Batch (List Value)) → Type 0
+Holds m inputs rows ends built streamed =
+    (rows ≡ built) × (ends ≡ m.rest built (rows_of streamed)) × IsTrue (fit_kinds (second_of inputs) built) × IsTrue (fit_kinds (m.columns inputs) ends)

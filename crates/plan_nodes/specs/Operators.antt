@@ -1,5 +1,5 @@
 -- What an operator computes, on whole lists of rows, and the words in which its calls say what they give.
-use Rattle.std.specs.Prelude.{ℕ, ◌+◌, ◌*◌, Bool, cond, nat_lt, ◌&&◌, List, [], ◌∷◌, ◌++◌, length, take, drop, Option, Some, None}
+use Rattle.std.specs.Prelude.{◌≡◌, ◌⊎◌, true, false, ℕ, ◌+◌, ◌*◌, Bool, cond, nat_lt, ◌&&◌, List, [], ◌∷◌, ◌++◌, length, take, drop, Option, Some, None}
 use Rattle.scalar_value.specs.declared.value.Value.{Value}
 use Rattle.scalar_value.specs.declared.value.ColType.{ColType}
 use Rattle.plan_machine.specs.declared.shape.OpShape.{OpShape}
@@ -39,6 +39,10 @@ second_of (x ∷ xs) = first_of xs
 -- what it gathers: a join its second input, every other operator its one input
 abbrev pub folded_of : OpMeaning → List (List ColType) → List ColType
 folded_of m inputs = cond m.shape.streams (second_of inputs) (first_of inputs)
+
+-- it gives rows at its end, or is read there, as a sink is
+abbrev pub Ends : OpMeaning → Type 0
+Ends m = (m.shape.tails ≡ true) ⊎ ((m.shape.folds ≡ true) × (m.shape.streams ≡ false))
 
 -- the plan machine's batch: with how many rows of its output were given before
 abbrev pub item : BatchValue → ℕ → Batch (List Value)

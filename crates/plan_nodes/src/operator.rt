@@ -2,7 +2,7 @@ ghost use Rattle.std.specs.Prelude.{◌≡◌, ◌++◌, ◌<◌, [], ◌∷◌,
 ghost use Rattle.scalar_value.specs.declared.value.Value.{Value};
 ghost use Rattle.scalar_value.specs.declared.value.ColType.{ColType};
 ghost use Rattle.plan_machine.specs.Batch.{Batch as Item, gathered};
-ghost use Rattle.plan_nodes.specs.Operators.{OpMeaning, Each, item, flat, first_of, folded_of, sent_rows, next_from, end_count, end_part};
+ghost use Rattle.plan_nodes.specs.Operators.{OpMeaning, Ends, Each, item, flat, first_of, folded_of, sent_rows, next_from, end_count, end_part};
 
 use column_batch::Batch;
 use plan_machine::OpShape;
@@ -22,9 +22,11 @@ pub struct Streamed {
 ///
 /// Each worker has a local part, which stands for the batches that it took, and all workers share a part, which stands
 /// for the rows that the node gathered and, once the streamed input has ended, for the batches that it streamed. An
-/// input's batches have columns of the types that the operator was made for. No call looks at the number of workers.
+/// input's batches have columns of the types that the operator was made for. No call looks at the number of workers. A
+/// call that the operator's shape doesn't have is never made, and what it answers means nothing.
 pub trait Operator: Send + Sync + Drop {
     type Local: Send + Drop;
+
     type Shared: Send + Sync + Drop;
 
     /// What the operator computes, on whole lists of rows.
@@ -55,35 +57,32 @@ pub trait Operator: Send + Sync + Drop {
 
     /// Adds a batch of the gathered input to a local part. After a refusal the part holds anything of its type.
     fn fold(&self, alloc: Global, local: &mut Self::Local, batch: Batch) -> Mem<()>
-        requires folds { (meaning self.now).shape.folds ≡ true }
-        requires stands {
-            (inputs : List (List ColType)) × (taken : List (Item (List Value)))
+        requires { (inputs : List (List ColType)) × (taken : List (Item (List Value)))
             × IsTrue ((meaning self.now).fits inputs)
             × local_is (meaning self.now) (folded_of (meaning self.now) inputs) local.old taken
-            × (batch.kinds ≡ folded_of (meaning self.now) inputs)
-        }
-        ensures {
-            (inputs : List (List ColType)) (taken : List (Item (List Value)))
+            × (batch.kinds ≡ folded_of (meaning self.now) inputs) }
+        ensures { (meaning self.now).shape.folds ≡ true
+            → (inputs : List (List ColType)) (taken : List (Item (List Value)))
             → IsTrue ((meaning self.now).fits inputs)
             → local_is (meaning self.now) (folded_of (meaning self.now) inputs) local.old taken
             → batch.kinds ≡ folded_of (meaning self.now) inputs
-            → OnOk result (local_is (meaning self.now) (folded_of (meaning self.now) inputs) local.new (taken ++ item batch 0 ∷ []))
-        };
+            → OnOk result (local_is (meaning self.now) (folded_of (meaning self.now) inputs) local.new (taken ++ item batch 0 ∷ [])) };
 
     /// What all local parts gathered, in the order of the batches' indexes, or as they stand where they have none.
-    fn seal<R: Threads + Sync>(&self, rt: &R, alloc: Global, locals: Seq<Self::Local>) -> Mem<Self::Shared>
-        requires folds { (meaning self.now).shape.folds ≡ true }
-        requires stands {
-            (inputs : List (List ColType)) × (lists : List (List (Item (List Value))))
+    fn seal<R: Threads + Sync>(
+        &self,
+        rt: &R,
+        alloc: Global,
+        locals: Seq<Self::Local>,
+    ) -> Mem<Self::Shared>
+        requires { (inputs : List (List ColType)) × (lists : List (List (Item (List Value))))
             × IsTrue ((meaning self.now).fits inputs)
-            × Each (local_is (meaning self.now) (folded_of (meaning self.now) inputs)) locals lists
-        }
-        ensures {
-            (inputs : List (List ColType)) (lists : List (List (Item (List Value))))
+            × Each (local_is (meaning self.now) (folded_of (meaning self.now) inputs)) locals lists }
+        ensures { (meaning self.now).shape.folds ≡ true
+            → (inputs : List (List ColType)) (lists : List (List (Item (List Value))))
             → IsTrue ((meaning self.now).fits inputs)
             → Each (local_is (meaning self.now) (folded_of (meaning self.now) inputs)) locals lists
-            → IfOk result (λ made. shared_is (meaning self.now) inputs made (gathered (flat lists)) [])
-        };
+            → IfOk result (λ made. shared_is (meaning self.now) inputs made (gathered (flat lists)) []) };
 
     /// The rows that a batch of the streamed input gives, from row `from` of its output on, and its addition to a local
     /// part. What is cut comes in batches of the operator's size. Where it is not cut, `from` is 0.
@@ -95,27 +94,23 @@ pub trait Operator: Send + Sync + Drop {
         batch: &Batch,
         from: u64,
     ) -> Mem<Streamed>
-        requires streams { (meaning self.now).shape.streams ≡ true }
         requires starts { ((meaning self.now).cuts ≡ true) ⊎ (from ≡ 0) }
-        requires stands {
-            (inputs : List (List ColType)) × (built : List (List Value)) × (taken : List (Item (List Value)))
+        requires stands { (inputs : List (List ColType)) × (built : List (List Value)) × (taken : List (Item (List Value)))
             × IsTrue ((meaning self.now).fits inputs)
             × shared_is (meaning self.now) inputs shared.now built []
             × local_is (meaning self.now) (first_of inputs) local.old taken
-            × (batch.now.kinds ≡ first_of inputs)
-        }
-        ensures {
-            (inputs : List (List ColType)) (built : List (List Value)) (taken : List (Item (List Value)))
+            × (batch.now.kinds ≡ first_of inputs) }
+        ensures { (meaning self.now).shape.streams ≡ true
+            → (inputs : List (List ColType)) (built : List (List Value)) (taken : List (Item (List Value)))
             → IsTrue ((meaning self.now).fits inputs)
             → shared_is (meaning self.now) inputs shared.now built []
             → local_is (meaning self.now) (first_of inputs) local.old taken
             → batch.now.kinds ≡ first_of inputs
             → IfOk result (λ given.
-                local_is (meaning self.now) (first_of inputs) local.new (taken ++ item batch.now from ∷ [])
-                × (given.out.rows ≡ sent_rows (meaning self.now) built batch.now.rows from)
-                × (given.out.kinds ≡ (meaning self.now).columns inputs)
-                × (given.next ≡ next_from (meaning self.now) built batch.now.rows from))
-        };
+            local_is (meaning self.now) (first_of inputs) local.new (taken ++ item batch.now from ∷ [])
+            × (given.out.rows ≡ sent_rows (meaning self.now) built batch.now.rows from)
+            × (given.out.kinds ≡ (meaning self.now).columns inputs)
+            × (given.next ≡ next_from (meaning self.now) built batch.now.rows from)) };
 
     /// What the operator has gathered, and all that the local parts streamed.
     fn close<R: Threads + Sync>(
@@ -125,52 +120,40 @@ pub trait Operator: Send + Sync + Drop {
         shared: &Self::Shared,
         locals: Seq<Self::Local>,
     ) -> Mem<Self::Shared>
-        requires streams { (meaning self.now).shape.streams ≡ true }
-        requires tails { (meaning self.now).shape.tails ≡ true }
-        requires stands {
-            (inputs : List (List ColType)) × (built : List (List Value)) × (lists : List (List (Item (List Value))))
+        requires { (inputs : List (List ColType)) × (built : List (List Value)) × (lists : List (List (Item (List Value))))
             × IsTrue ((meaning self.now).fits inputs)
             × shared_is (meaning self.now) inputs shared.now built []
-            × Each (local_is (meaning self.now) (first_of inputs)) locals lists
-        }
-        ensures {
-            (inputs : List (List ColType)) (built : List (List Value)) (lists : List (List (Item (List Value))))
+            × Each (local_is (meaning self.now) (first_of inputs)) locals lists }
+        ensures { (meaning self.now).shape.streams ≡ true
+            → (meaning self.now).shape.tails ≡ true
+            → (inputs : List (List ColType)) (built : List (List Value)) (lists : List (List (Item (List Value))))
             → IsTrue ((meaning self.now).fits inputs)
             → shared_is (meaning self.now) inputs shared.now built []
             → Each (local_is (meaning self.now) (first_of inputs)) locals lists
-            → IfOk result (λ made. shared_is (meaning self.now) inputs made built (flat lists))
-        };
+            → IfOk result (λ made. shared_is (meaning self.now) inputs made built (flat lists)) };
 
     /// How many batches of the operator's size hold the rows that it gives at its end.
     fn tails(&self, shared: &Self::Shared) -> u64
-        requires ends { ((meaning self.now).shape.tails ≡ true) ⊎ (((meaning self.now).shape.folds ≡ true) × ((meaning self.now).shape.streams ≡ false)) }
-        requires stands {
-            (inputs : List (List ColType)) × (built : List (List Value)) × (streamed : List (Item (List Value)))
+        requires { (inputs : List (List ColType)) × (built : List (List Value)) × (streamed : List (Item (List Value)))
             × IsTrue ((meaning self.now).fits inputs)
-            × shared_is (meaning self.now) inputs shared.now built streamed
-        }
-        ensures {
-            (inputs : List (List ColType)) (built : List (List Value)) (streamed : List (Item (List Value)))
+            × shared_is (meaning self.now) inputs shared.now built streamed }
+        ensures { Ends (meaning self.now)
+            → (inputs : List (List ColType)) (built : List (List Value)) (streamed : List (Item (List Value)))
             → IsTrue ((meaning self.now).fits inputs)
             → shared_is (meaning self.now) inputs shared.now built streamed
-            → result ≡ end_count (meaning self.now) built streamed
-        };
+            → result ≡ end_count (meaning self.now) built streamed };
 
     /// Batch k of them, counted from 0.
     fn tail(&self, alloc: Global, shared: &Self::Shared, k: u64) -> Mem<Batch>
-        requires ends { ((meaning self.now).shape.tails ≡ true) ⊎ (((meaning self.now).shape.folds ≡ true) × ((meaning self.now).shape.streams ≡ false)) }
-        requires stands {
-            (inputs : List (List ColType)) × (built : List (List Value)) × (streamed : List (Item (List Value)))
+        requires { (inputs : List (List ColType)) × (built : List (List Value)) × (streamed : List (Item (List Value)))
             × IsTrue ((meaning self.now).fits inputs)
-            × shared_is (meaning self.now) inputs shared.now built streamed
-            × (k < end_count (meaning self.now) built streamed)
-        }
-        ensures {
-            (inputs : List (List ColType)) (built : List (List Value)) (streamed : List (Item (List Value)))
+            × shared_is (meaning self.now) inputs shared.now built streamed }
+        ensures { Ends (meaning self.now)
+            → (inputs : List (List ColType)) (built : List (List Value)) (streamed : List (Item (List Value)))
             → IsTrue ((meaning self.now).fits inputs)
             → shared_is (meaning self.now) inputs shared.now built streamed
+            → k < end_count (meaning self.now) built streamed
             → IfOk result (λ made.
-                (made.rows ≡ end_part (meaning self.now) built streamed k)
-                × (made.kinds ≡ (meaning self.now).columns inputs))
-        };
+            (made.rows ≡ end_part (meaning self.now) built streamed k)
+            × (made.kinds ≡ (meaning self.now).columns inputs)) };
 }

@@ -60,11 +60,10 @@ pub choice_is : (g : Given) (s : State (List Value)) (w : ℕ) → IsWorker (pla
     → IfSome r (λ f. IsFirstWork (plan_of g) s f.node f.job f.number)
     → IfSome r (λ f. IsClaimChoice (plan_of g) s w f.node f.job f.number)
 choice_is g s w worker sound free calm None h = h
-choice_is g s w worker sound free calm (Some f) h =
-    (
-      (record { node = h.node; worker = worker; free = free; sound = sound; no_stop = no_stop g s; no_pause = calm }, h.first.0),
-      (λ n job k can. preferred (plan_of g) s f.node f.job f.number h n job k can.0.node can.1 (same_or f.node n))
-    )
+choice_is g s w worker sound free calm (Some f) h = (
+  (record { node = h.node; worker = worker; free = free; sound = sound; no_stop = no_stop g s; no_pause = calm }, h.first.0),
+  (λ n job k can. preferred (plan_of g) s f.node f.job f.number h n job k can.0.node can.1 (same_or f.node n)),
+)
 
 -- ---- what is stored of a node
 
@@ -98,18 +97,18 @@ module _ {O S L : Type 0}
     pub started : Started (plan_of g) h.lawful h.well (state_after (plan_of g) es)
     started = (run (plan_of g) h.lawful h.well es (opening (plan_of g)) (good-opening (plan_of g) h.lawful h.well) h.legal sound).good.sound.fit.started
 
-    stage_at : StageIs (plan_of g) n ((state_after (plan_of g) es).phase n) ((state_after (plan_of g) es).next n) ((state_after (plan_of g) es).built n) ((state_after (plan_of g) es).streamed n) (length (tasks_at (plan_of g) (state_after (plan_of g) es) n)) stage
+    pub stage_at : StageIs (plan_of g) n ((state_after (plan_of g) es).phase n) ((state_after (plan_of g) es).next n) ((state_after (plan_of g) es).built n) ((state_after (plan_of g) es).streamed n) (length (tasks_at (plan_of g) (state_after (plan_of g) es) n)) stage
     stage_at =
         let s = state_after (plan_of g) es in
         let all = h.stored.all_stages in
         held_at (λ m st. StageIs (plan_of g) m (s.phase m) (s.next m) (s.built m) (s.streamed m) (length (tasks_at (plan_of g) s m)) st) stages n stage h.stored.stages_are node.0 (let up = node.1 in omega arith) is_stage
 
-    info_at : InfoIs (plan_of g) (site_of g n) n info
+    pub info_at : InfoIs (plan_of g) (site_of g n) n info
     info_at =
         let all = h.stored.all_infos in
         held_at (λ m i. InfoIs (plan_of g) (site_of g m) m i) infos n info h.stored.infos_are node.0 (let up = node.1 in omega arith) is_info
 
-    folds_is : cond info.shape.streams info.second info.first ≡ folds_from (plan_of g) n
+    pub folds_is : cond info.shape.streams info.second info.first ≡ folds_from (plan_of g) n
     folds_is = let a = info_at.streams in let b = info_at.first in let c = info_at.second in rw (a, b, c) refl
 
     input_at : (p : Phase) → stage.phase ≡ p → IsNode (plan_of g) (input_by p info.shape.streams info.first info.second n)

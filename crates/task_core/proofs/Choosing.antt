@@ -95,11 +95,11 @@ module _ {R : Type 0} (P : Plan R) (s : State R) where
     emitting at =
         by_test n next (nat_lt next count && not paused) (Some Emit) None
         (λ t.
-            let lt = ltb-true next count (and_left (nat_lt next count) (not paused) t) in
-            let free = not_true paused (and_right (nat_lt next count) (not paused) t) in
-            let all = S.emits at in
-            let same = S.next_is in
-            ((at, sym same, omega arith, sym S.paused_is ∙ free), first))
+        let lt = ltb-true next count (and_left (nat_lt next count) (not paused) t) in
+        let free = not_true paused (and_right (nat_lt next count) (not paused) t) in
+        let all = S.emits at in
+        let same = S.next_is in
+        ((at, sym same, omega arith, sym S.paused_is ∙ free), first))
         (λ f. none_but Emitting at (nothing f))
       where
         first : (job : Job) (k : ℕ) → CanDo P s n job k → (place_of Emit < place_of job) ⊎ ((Emit ≡ job) × (next ≤ k))
@@ -127,11 +127,11 @@ module _ {R : Type 0} (P : Plan R) (s : State R) where
     tailing at =
         by_test n next (nat_lt next count && not paused) (Some Tail) None
         (λ t.
-            let lt = ltb-true next count (and_left (nat_lt next count) (not paused) t) in
-            let free = not_true paused (and_right (nat_lt next count) (not paused) t) in
-            let all = S.ends at in
-            let same = S.next_is in
-            ((at, sym same, omega arith, sym S.paused_is ∙ free), first))
+        let lt = ltb-true next count (and_left (nat_lt next count) (not paused) t) in
+        let free = not_true paused (and_right (nat_lt next count) (not paused) t) in
+        let all = S.ends at in
+        let same = S.next_is in
+        ((at, sym same, omega arith, sym S.paused_is ∙ free), first))
         (λ f. none_but Tailing at (nothing f))
       where
         first : (job : Job) (k : ℕ) → CanDo P s n job k → (place_of Tail < place_of job) ⊎ ((Tail ≡ job) × (next ≤ k))
@@ -170,8 +170,8 @@ module _ {R : Type 0} (P : Plan R) (s : State R) where
         by_test n next waits (Some Fold) (cond (ended && nat_eq busy 0) (Some Seal) None)
         (λ t. ((at, o.some t), first_fold))
         (λ f. by_test n next (ended && nat_eq busy 0) (Some Seal) None
-            (λ t. ((at, idle (and_right ended (nat_eq busy 0) t), o.over (and_left ended (nat_eq busy 0) t), refl), first_seal f))
-            (λ g. none_but Folding at (nothing f g)))
+        (λ t. ((at, idle (and_right ended (nat_eq busy 0) t), o.over (and_left ended (nat_eq busy 0) t), refl), first_seal f))
+        (λ g. none_but Folding at (nothing f g)))
       where
         o : Offers (folds_from P n) waits ended
         o = S.folds at
@@ -205,10 +205,10 @@ module _ {R : Type 0} (P : Plan R) (s : State R) where
         by_test n next (waits && not paused) (Some Stream) (cond (ended && (tails && nat_eq busy 0)) (Some Close) None)
         (λ t. ((at, o.some (and_left waits (not paused) t), sym S.paused_is ∙ not_true paused (and_right waits (not paused) t)), first_stream))
         (λ f. by_test n next (ended && (tails && nat_eq busy 0)) (Some Close) None
-            (λ t.
-                let r = and_right ended (tails && nat_eq busy 0) t in
-                ((at, idle (and_right tails (nat_eq busy 0) r), o.over (and_left ended (tails && nat_eq busy 0) t), refl, S.tails_is ∙ and_left tails (nat_eq busy 0) r), first_close f))
-            (λ g. none_but Streaming at (nothing f g)))
+        (λ t.
+        let r = and_right ended (tails && nat_eq busy 0) t in
+        ((at, idle (and_right tails (nat_eq busy 0) r), o.over (and_left ended (tails && nat_eq busy 0) t), refl, S.tails_is ∙ and_left tails (nat_eq busy 0) r), first_close f))
+        (λ g. none_but Streaming at (nothing f g)))
       where
         o : Offers (streams_from P n) waits ended
         o = S.streams at

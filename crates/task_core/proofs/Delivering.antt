@@ -44,7 +44,7 @@ site_workers g n = refl
 
 module _ {O S L : Type 0}
     (meaning : O → OpMeaning)
-    (local_is : OpMeaning → List (List ColType) → L → List (Batch (List Value)) → Type 0)
+    (local_is : OpMeaning → List ColType → L → List (Batch (List Value)) → Type 0)
     (shared_is : OpMeaning → List (List ColType) → S → List (List Value) → List (Batch (List Value)) → Type 0)
     (g : Given)
   where
@@ -145,8 +145,12 @@ module _ {O S L : Type 0}
           workers = omega arith;
           nodes = omega arith;
           seat = omega arith;
-          place = within;
-          busy = λ d. let b = (h.stored.stages_are p d within).busy in let less = flight_less (plan_of g) s.tasks (suc q) (suc p) t worker busy here in omega arith;
+          place = omega arith;
+          busy = λ d.
+              let b = (h.stored.stages_are p d within).busy in
+              let less = flight_less (plan_of g) s.tasks (suc q) (suc p) t worker busy here in
+              let at : suc p - 1 ≡ p = omega arith in
+              subst (λ k. 0 < (slice_index_or stages k d).busy) (sym at) (omega arith);
           flies = omega arith;
           room = omega arith;
         }
@@ -185,7 +189,7 @@ module _ {O S L : Type 0}
         → Stands meaning local_is shared_is g (es ++ Deliver w ∷ []) infos stages' queues' rows' seats' failed count' room capacity'
     delivered_stands es w t s' infos stages stages' queues queues' rows rows' seats seats' failed count count' room capacity capacity' h worker busy is st some less same =
         standing meaning local_is shared_is g es (Deliver w) infos infos stages stages' queues queues' rows rows' seats seats' failed failed count count' room room capacity capacity' h
-        (worker, t, busy)
+        (worker, (t, busy))
         (subst (λ (x : State (List Value)). Stored meaning local_is shared_is g x (λ e. max (peaks es e) (length (x.waiting e))) infos stages' queues' rows' seats' failed count') (sym is) st)
         (let f = h.fits in omega arith)
 
@@ -229,7 +233,7 @@ module _ {O S L : Type 0}
     drop_at es infos stages stages' queues rows seats seats' failed count count' room capacity capacity' q p t h worker busy here dropped seats_set stages_set less same =
         let s = state_after (plan_of g) es in
         let ready = departing_at es infos stages queues rows seats failed count room capacity q p t h worker busy here in
-        let within : p < length stages = ready.place in
+        let within : p < length stages = let place = ready.place in omega arith in
         let d = some_of p stages within in
         subst (λ xs. Stands meaning local_is shared_is g (es ++ Deliver (suc q) ∷ []) infos xs queues rows seats' failed count' room capacity') (sym (stages_set d))
         (subst (λ xs. Stands meaning local_is shared_is g (es ++ Deliver (suc q) ∷ []) infos (slice_set stages p (with_less_busy (slice_index_or stages p d))) queues rows xs failed count' room capacity') (sym seats_set)
@@ -246,3 +250,38 @@ module _ {O S L : Type 0}
         (with_most meaning local_is shared_is g s (peaks es) (λ e. max (peaks es e) (length (s.waiting e))) infos stages queues rows seats failed count (peak_stays es) h.stored).queues_are
         less)
         ready.flies less same))
+
+    pub after_drop : (es : List Entry) (infos : List NodeInfo) (stages stages' : List Stage) (queues : List Queue) (rows : Shares) (seats seats' : List (Option Flight)) (failed : Bool) (count count' room capacity capacity' w n : ℕ) (t : Task (List Value))
+        → Stands meaning local_is shared_is g es infos stages queues rows seats failed count room capacity
+        → IsWorker (plan_of g) w → (state_after (plan_of g) es).tasks w ≡ Some t → t.node ≡ n
+        → ((state_after (plan_of g) es).failed || is_done ((state_after (plan_of g) es).phase n)) ≡ true
+        → seats' ≡ slice_set seats (w - 1) None
+        → ((d : Stage) → stages' ≡ slice_set stages (n - 1) (with_less_busy (slice_index_or stages (n - 1) d)))
+        → count' ≡ count - 1 → capacity' ≡ capacity
+        → Stands meaning local_is shared_is g (es ++ Deliver w ∷ []) infos stages' queues rows seats' failed count' room capacity'
+    after_drop es infos stages stages' queues rows seats seats' failed count count' room capacity capacity' w n t h worker busy here dropped seats_set stages_set less same =
+        let node : IsNode (plan_of g) n = subst (λ k. IsNode (plan_of g) k) here ((seated (plan_of g) es h.legal).at_node w t busy) in
+        let low = worker.0 in
+        let low' = node.0 in
+        let at : suc (w - 1) ≡ w = omega arith in
+        let at' : suc (n - 1) ≡ n = omega arith in
+        subst (λ v. Stands meaning local_is shared_is g (es ++ Deliver v ∷ []) infos stages' queues rows seats' failed count' room capacity') at
+        (drop_at es infos stages stages' queues rows seats seats' failed count count' room capacity capacity' (w - 1) (n - 1) t h
+        (subst (λ v. IsWorker (plan_of g) v) (sym at) worker)
+        (ap (state_after (plan_of g) es).tasks at ∙ busy) (here ∙ sym at')
+        (subst (λ k. ((state_after (plan_of g) es).failed || is_done ((state_after (plan_of g) es).phase k)) ≡ true) (sym at') dropped)
+        seats_set stages_set less same)
+
+    -- whether a delivery is dropped, by what is stored
+    pub drops_by : (es : List Entry) (infos : List NodeInfo) (stages : List Stage) (queues : List Queue) (rows : Shares) (seats : List (Option Flight)) (failed : Bool) (count room capacity w n : ℕ) (t : Task (List Value))
+        → Stands meaning local_is shared_is g es infos stages queues rows seats failed count room capacity
+        → (state_after (plan_of g) es).tasks w ≡ Some t → t.node ≡ n
+        → (1 ≤ n) × (n - 1 < length stages) × ((d : Stage) → (slice_index_or stages (n - 1) d).phase ≡ (state_after (plan_of g) es).phase n)
+    drops_by es infos stages queues rows seats failed count room capacity w n t h busy here =
+        let node : IsNode (plan_of g) n = subst (λ k. IsNode (plan_of g) k) here ((seated (plan_of g) es h.legal).at_node w t busy) in
+        let low = node.0 in
+        let upper = node.1 in
+        let all = h.stored.all_stages in
+        let at : suc (n - 1) ≡ n = omega arith in
+        let within : n - 1 < length stages = omega arith in
+        (low, within, λ d. (h.stored.stages_are (n - 1) d within).is_phase ∙ ap (state_after (plan_of g) es).phase at)

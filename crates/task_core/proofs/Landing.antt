@@ -63,7 +63,7 @@ away_left tasks w n v t busy not (inr all) = inr (all_away_left tasks w n t busy
 
 module _ {O S L : Type 0}
     (meaning : O → OpMeaning)
-    (local_is : OpMeaning → List (List ColType) → L → List (Batch (List Value)) → Type 0)
+    (local_is : OpMeaning → List ColType → L → List (Batch (List Value)) → Type 0)
     (shared_is : OpMeaning → List (List ColType) → S → List (List Value) → List (Batch (List Value)) → Type 0)
   where
     -- ---- rows of shares

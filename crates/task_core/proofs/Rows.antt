@@ -12,3 +12,6 @@ pub row_set : {A Z : Type 0} (xs : List (Vec A Z)) (p : ℕ) (r r' : Vec A Z) (x
 row_set {A} {Z} xs p r r' x q d lt e is =
     map-set (λ (v : Vec A Z). v.items) xs p r'
     ∙ ap (λ (l : List A). slice_set (map (λ (v : Vec A Z). v.items) xs) p l) (is ∙ ap (λ (l : List A). slice_set l q x) (row_read xs p r d lt e))
+
+pub row_put_whole : {A Z : Type 0} (xs : List (Vec A Z)) (p : ℕ) (r : Vec A Z) → map (λ (v : Vec A Z). v.items) (slice_set xs p r) ≡ slice_set (map (λ (v : Vec A Z). v.items) xs) p r.items
+row_put_whole {A} {Z} xs p r = map-set (λ (v : Vec A Z). v.items) xs p r

@@ -2,8 +2,11 @@ pub mod Told
 pub mod Stored
 pub mod Queues
 pub mod Stages
+pub mod Outcome
+pub mod Due
 pub mod Choosing
 pub mod Calls
 pub mod Known
 pub mod Delivering
 pub mod Opening
+pub mod Openings

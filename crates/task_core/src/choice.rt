@@ -31,7 +31,7 @@ fn job_of(stage: &Stage, tails: bool, paused: bool, waits: bool, ended: bool) ->
 }
 
 /// The input that a node reads in this phase; in a phase that reads none, the node itself.
-fn input_of(phase: Phase, info: &NodeInfo, node: u32) -> u32
+pub fn input_of(phase: Phase, info: &NodeInfo, node: u32) -> u32
     ensures { result ≡ input_by phase info.now.shape.streams info.now.first info.now.second node }
 {
     match phase {
@@ -53,7 +53,7 @@ fn number_of(job: Job, stage: &Stage) -> u64
 
 impl<O: Operator> PlanState<O> {
     /// How many nodes the plan has.
-    fn node_count(&self) -> u32
+    pub(crate) fn node_count(&self) -> u32
         ensures { result ≡ (plan_of self.now.given).sink }
     {
         self.stages.len() as u32
@@ -68,7 +68,7 @@ impl<O: Operator> PlanState<O> {
     }
 
     /// Whether an edge is paused.
-    fn is_paused(&self, edge: u32) -> bool
+    pub(crate) fn is_paused(&self, edge: u32) -> bool
         requires { IsNode (plan_of self.now.given) edge }
         ensures { result ≡ (state_of self.now).paused edge }
     {
@@ -84,7 +84,7 @@ impl<O: Operator> PlanState<O> {
     }
 
     /// Whether an edge has ended: the node that gives it has, and nothing waits on it.
-    fn is_ended(&self, edge: u32) -> bool
+    pub(crate) fn is_ended(&self, edge: u32) -> bool
         requires { IsNode (plan_of self.now.given) edge }
         ensures { IsTrue result ↔ IsEndedEdge (plan_of self.now.given) (state_of self.now) edge }
     {
@@ -92,15 +92,17 @@ impl<O: Operator> PlanState<O> {
     }
 
     /// Whether an edge has to be paused.
-    fn is_over(&self, edge: u32) -> bool
+    pub(crate) fn is_over(&self, edge: u32) -> bool
         requires { IsEdge (plan_of self.now.given) edge }
         ensures { IsTrue result ↔ CanPause (plan_of self.now.given) (state_of self.now) edge }
     {
-        self.queues[(edge - 1) as usize].edge.over(self.setting.pause)
+        self.queues[(edge - 1) as usize]
+            .edge
+            .over(self.setting.pause)
     }
 
     /// Whether any edge has to be paused.
-    fn pause_due(&self) -> bool
+    pub(crate) fn pause_due(&self) -> bool
         ensures yes { result ≡ true → (e : ℕ) × CanPause (plan_of self.now.given) (state_of self.now) e }
         ensures no { result ≡ false → (e : ℕ) → CanPause (plan_of self.now.given) (state_of self.now) e → ⊥ }
     {
@@ -113,7 +115,7 @@ impl<O: Operator> PlanState<O> {
     }
 
     /// Whether a worker has a task in flight.
-    fn has_task(&self, worker: u32) -> bool
+    pub(crate) fn has_task(&self, worker: u32) -> bool
         requires { IsWorker (plan_of self.now.given) worker }
         ensures { result ≡ false ↔ ((state_of self.now).tasks worker ≡ None) }
     {
@@ -135,7 +137,11 @@ impl<O: Operator> PlanState<O> {
         let ended = self.is_ended(input);
         let paused = self.is_paused(node);
         match job_of(&stage, info.shape.tails, paused, waits, ended) {
-            Some(job) => Some(Flight { node, job, number: number_of(job, &stage) }),
+            Some(job) => Some(Flight {
+                node,
+                job,
+                number: number_of(job, &stage),
+            }),
             None => None,
         }
     }

@@ -1,5 +1,5 @@
 -- A node as the work at it sees it.
-use Rattle.std.specs.Prelude.{◌≡◌, ℕ, ◌≤◌, Bool, true, List, Some}
+use Rattle.std.specs.Prelude.{ℕ, Bool, List}
 use Rattle.scalar_value.specs.declared.value.Value.{Value}
 use Rattle.scalar_value.specs.declared.value.ColType.{ColType}
 use Rattle.plan_nodes.specs.Operators.{OpMeaning}

@@ -34,19 +34,21 @@ pub fn fold<O: Operator>(
     part: Part<O, O::Shared, O::Local>,
     batch: Batch,
 ) -> Mem<Fruit<O, O::Shared, O::Local>>
-    requires {
-        (v : Site) × (t : MachineTask (List Value))
-        × IsWork O.meaning O.local_is O.shared_is v t (Work.Fold part batch)
-    }
-    ensures {
-        (v : Site) (t : MachineTask (List Value))
+    requires { (v : Site) × (t : MachineTask (List Value))
+        × IsWork O.meaning O.local_is O.shared_is v t (Work.Fold part batch) }
+    ensures { (v : Site) (t : MachineTask (List Value))
         → IsWork O.meaning O.local_is O.shared_is v t (Work.Fold part batch)
-        → IfOk result (IsFruit O.meaning O.local_is O.shared_is v t)
-    }
+        → IfOk result (IsFruit O.meaning O.local_is O.shared_is v t) }
 {
-    let Part { op, shared, mut local } = part;
+    let Part {
+        op,
+        shared,
+        mut local,
+    } = part;
     op.fold(alloc, &mut local, batch)?;
-    Ok(Fruit::Fold { part: Part { op, shared, local } })
+    Ok(Fruit::Fold {
+        part: Part { op, shared, local },
+    })
 }
 
 /// The work of a Stream: a batch of what the operator gives for the batch, with its index where the order is kept, and
@@ -58,19 +60,19 @@ pub fn stream<O: Operator>(
     batch: Batch,
     from: u64,
 ) -> Mem<Fruit<O, O::Shared, O::Local>>
-    requires {
-        (v : Site) × (t : MachineTask (List Value))
+    requires { (v : Site) × (t : MachineTask (List Value))
         × (v.kept ≡ kept)
-        × IsWork O.meaning O.local_is O.shared_is v t (Work.Stream part batch from)
-    }
-    ensures {
-        (v : Site) (t : MachineTask (List Value))
+        × IsWork O.meaning O.local_is O.shared_is v t (Work.Stream part batch from) }
+    ensures { (v : Site) (t : MachineTask (List Value))
         → v.kept ≡ kept
         → IsWork O.meaning O.local_is O.shared_is v t (Work.Stream part batch from)
-        → IfOk result (IsFruit O.meaning O.local_is O.shared_is v t)
-    }
+        → IfOk result (IsFruit O.meaning O.local_is O.shared_is v t) }
 {
-    let Part { op, shared, mut local } = part;
+    let Part {
+        op,
+        shared,
+        mut local,
+    } = part;
     let Streamed { mut out, next } = op.stream(alloc, &shared, &mut local, &batch, from)?;
     out.set_index(index_where(kept, batch.index()));
     Ok(Fruit::Stream {
@@ -87,17 +89,13 @@ pub fn tail<O: Operator>(
     part: Part<O, O::Shared, O::Local>,
     number: u64,
 ) -> Mem<Fruit<O, O::Shared, O::Local>>
-    requires {
-        (v : Site) × (t : MachineTask (List Value))
+    requires { (v : Site) × (t : MachineTask (List Value))
         × (v.kept ≡ kept)
-        × IsWork O.meaning O.local_is O.shared_is v t (Work.Tail part number)
-    }
-    ensures {
-        (v : Site) (t : MachineTask (List Value))
+        × IsWork O.meaning O.local_is O.shared_is v t (Work.Tail part number) }
+    ensures { (v : Site) (t : MachineTask (List Value))
         → v.kept ≡ kept
         → IsWork O.meaning O.local_is O.shared_is v t (Work.Tail part number)
-        → IfOk result (IsFruit O.meaning O.local_is O.shared_is v t)
-    }
+        → IfOk result (IsFruit O.meaning O.local_is O.shared_is v t) }
 {
     let mut out = part.op.tail(alloc, &part.shared, number)?;
     out.set_index(index_where(kept, Some(number)));

@@ -75,20 +75,20 @@ fn put_together<O: Operator>(
 /// How many batches an operator that gathers gives at its end, where it streams nothing; else the count comes later.
 fn count_of<O: Operator>(op: &O, shared: &O::Shared) -> u64
     requires folds { (O.meaning op.now).shape.folds ≡ true }
-    requires stands {
-        (inputs : List (List ColType)) × (built : List (List Value))
+    requires stands { (inputs : List (List ColType)) × (built : List (List Value))
         × IsTrue ((O.meaning op.now).fits inputs)
-        × O.shared_is (O.meaning op.now) inputs shared.now built []
-    }
-    ensures {
-        (inputs : List (List ColType)) (built : List (List Value))
+        × O.shared_is (O.meaning op.now) inputs shared.now built [] }
+    ensures { (inputs : List (List ColType)) (built : List (List Value))
         → IsTrue ((O.meaning op.now).fits inputs)
         → O.shared_is (O.meaning op.now) inputs shared.now built []
         → (O.meaning op.now).shape.streams ≡ false
-        → result ≡ end_count (O.meaning op.now) built []
-    }
+        → result ≡ end_count (O.meaning op.now) built [] }
 {
-    if op.shape().streams { 0 } else { op.tails(shared) }
+    if op.shape().streams {
+        0
+    } else {
+        op.tails(shared)
+    }
 }
 
 /// The work of a Seal: what all workers gathered, and new parts that share it. Also how many batches the operator gives
@@ -98,15 +98,11 @@ pub fn seal<R: Threads + Sync, O: Operator>(
     alloc: Global,
     row: Vec<Option<Share<O, O::Shared, O::Local>>>,
 ) -> Mem<Fruit<O, O::Shared, O::Local>>
-    requires {
-        (v : Site) × (t : MachineTask (List Value))
-        × IsWork O.meaning O.local_is O.shared_is v t (Work.Seal row)
-    }
-    ensures {
-        (v : Site) (t : MachineTask (List Value))
+    requires { (v : Site) × (t : MachineTask (List Value))
+        × IsWork O.meaning O.local_is O.shared_is v t (Work.Seal row) }
+    ensures { (v : Site) (t : MachineTask (List Value))
         → IsWork O.meaning O.local_is O.shared_is v t (Work.Seal row)
-        → IfOk result (IsFruit O.meaning O.local_is O.shared_is v t)
-    }
+        → IfOk result (IsFruit O.meaning O.local_is O.shared_is v t) }
 {
     let Apart { shares, locals } = take_apart(alloc, row)?;
     let first = &shares[0];
@@ -123,15 +119,11 @@ pub fn close<R: Threads + Sync, O: Operator>(
     alloc: Global,
     row: Vec<Option<Share<O, O::Shared, O::Local>>>,
 ) -> Mem<Fruit<O, O::Shared, O::Local>>
-    requires {
-        (v : Site) × (t : MachineTask (List Value))
-        × IsWork O.meaning O.local_is O.shared_is v t (Work.Close row)
-    }
-    ensures {
-        (v : Site) (t : MachineTask (List Value))
+    requires { (v : Site) × (t : MachineTask (List Value))
+        × IsWork O.meaning O.local_is O.shared_is v t (Work.Close row) }
+    ensures { (v : Site) (t : MachineTask (List Value))
         → IsWork O.meaning O.local_is O.shared_is v t (Work.Close row)
-        → IfOk result (IsFruit O.meaning O.local_is O.shared_is v t)
-    }
+        → IfOk result (IsFruit O.meaning O.local_is O.shared_is v t) }
 {
     let Apart { shares, locals } = take_apart(alloc, row)?;
     let first = &shares[0];

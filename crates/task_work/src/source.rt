@@ -34,12 +34,15 @@ fn piece_of(alloc: Global, kept: bool, size: u32, table: &Table, number: u64) ->
     requires size { 0 < size }
     requires within { number < parts size table.now.rows }
     ensures { IfOk result (λ b. b ≡ record {
-        index = marked kept (Some number);
-        kinds = kinds_of table.now.schema;
-        rows = (piece kept size table.now.rows number).rows;
+      index = marked kept (Some number);
+      kinds = kinds_of table.now.schema;
+      rows = (piece kept size table.now.rows number).rows;
     }) }
 {
-    let (_, rest) = table.rows.as_slice().split_at(number as usize * size as usize);
+    let (_, rest) = table
+        .rows
+        .as_slice()
+        .split_at(number as usize * size as usize);
     let rows = front_of(rest, size as usize);
     fits_by_kinds();
     fits_parts();
@@ -55,17 +58,13 @@ pub fn emit<O: Operator>(
     number: u64,
 ) -> Mem<Fruit<O, O::Shared, O::Local>>
     requires size { 0 < size }
-    requires work {
-        (v : Site) × (t : MachineTask (List Value))
+    requires work { (v : Site) × (t : MachineTask (List Value))
         × (v.kept ≡ kept) × (v.batch ≡ size)
-        × IsWork O.meaning O.local_is O.shared_is v t (Work.Emit table number)
-    }
-    ensures {
-        (v : Site) (t : MachineTask (List Value))
+        × IsWork O.meaning O.local_is O.shared_is v t (Work.Emit table number) }
+    ensures { (v : Site) (t : MachineTask (List Value))
         → v.kept ≡ kept → v.batch ≡ size
         → IsWork O.meaning O.local_is O.shared_is v t (Work.Emit table number)
-        → IfOk result (IsFruit O.meaning O.local_is O.shared_is v t)
-    }
+        → IfOk result (IsFruit O.meaning O.local_is O.shared_is v t) }
 {
     let out = piece_of(alloc, kept, size, &table, number)?;
     Ok(Fruit::Emit { table, out })

@@ -38,17 +38,13 @@ fn fruit_of<R: Threads + Sync, O: Operator>(
     work: Work<O, O::Shared, O::Local>,
 ) -> Mem<Fruit<O, O::Shared, O::Local>>
     requires size { 0 < size }
-    requires work {
-        (v : Site) × (t : MachineTask (List Value))
+    requires work { (v : Site) × (t : MachineTask (List Value))
         × (v.kept ≡ kept) × (v.batch ≡ size)
-        × IsWork O.meaning O.local_is O.shared_is v t work
-    }
-    ensures {
-        (v : Site) (t : MachineTask (List Value))
+        × IsWork O.meaning O.local_is O.shared_is v t work }
+    ensures { (v : Site) (t : MachineTask (List Value))
         → v.kept ≡ kept → v.batch ≡ size
         → IsWork O.meaning O.local_is O.shared_is v t work
-        → IfOk result (IsFruit O.meaning O.local_is O.shared_is v t)
-    }
+        → IfOk result (IsFruit O.meaning O.local_is O.shared_is v t) }
 {
     match work {
         Work::Emit { table, number } => emit(alloc, kept, size, table, number),
@@ -61,21 +57,26 @@ fn fruit_of<R: Threads + Sync, O: Operator>(
 }
 
 /// Does the work of a task, which takes no turn and waits for nobody.
-pub fn run_task<R: Threads + Sync, O: Operator>(rt: &R, alloc: Global, task: Task<O>) -> Mem<Done<O>>
+pub fn run_task<R: Threads + Sync, O: Operator>(
+    rt: &R,
+    alloc: Global,
+    task: Task<O>,
+) -> Mem<Done<O>>
     requires batch { 0 < task.batch }
-    requires work {
-        (v : Site) × (t : MachineTask (List Value))
+    requires work { (v : Site) × (t : MachineTask (List Value))
         × (v.kept ≡ task.kept) × (v.batch ≡ task.batch)
-        × IsWork O.meaning O.local_is O.shared_is v t task.work
-    }
-    ensures {
-        (v : Site) (t : MachineTask (List Value))
+        × IsWork O.meaning O.local_is O.shared_is v t task.work }
+    ensures { (v : Site) (t : MachineTask (List Value))
         → v.kept ≡ task.kept → v.batch ≡ task.batch
         → IsWork O.meaning O.local_is O.shared_is v t task.work
-        → IfOk result (λ done. (done.node ≡ task.node) × IsFruit O.meaning O.local_is O.shared_is v t done.fruit)
-    }
+        → IfOk result (λ done. (done.node ≡ task.node) × IsFruit O.meaning O.local_is O.shared_is v t done.fruit) }
 {
-    let Task { node, kept, batch: size, work } = task;
+    let Task {
+        node,
+        kept,
+        batch: size,
+        work,
+    } = task;
     let fruit = fruit_of(rt, alloc, kept, size, work)?;
     Ok(Done { node, fruit })
 }

@@ -1,5 +1,6 @@
 //! The rows of gathered batches, in the order of the batches' indexes.
-ghost use Rattle.std.specs.Prelude.{◌≡◌, IfOk, length, take, drop, ◌<◌};
+ghost use Rattle.std.specs.Prelude.{◌≡◌, IfOk, length, take, drop, ◌*◌, ◌<◌};
+ghost use Rattle.plan_machine.specs.Phases.{part_count_of};
 ghost use Rattle.plan_machine.specs.Batch.{key_of, sort_batches, rows_of, gathered};
 ghost use Rattle.plan_nodes.specs.Operators.{flat};
 ghost use Rattle.plan_nodes.specs.Examples.{bare};
@@ -19,7 +20,7 @@ fn place(batch: &Batch) -> u64
     }
 }
 
-fn flat_batches(alloc: Global, parts: Seq<Seq<Batch>>) -> Mem<Vec<Batch>>
+pub(crate) fn flat_batches(alloc: Global, parts: Seq<Seq<Batch>>) -> Mem<Vec<Batch>>
     ensures { IfOk result (λ all. all.items ≡ flat parts) }
 {
     let mut all = Vec::new(alloc);
@@ -30,7 +31,7 @@ fn flat_batches(alloc: Global, parts: Seq<Seq<Batch>>) -> Mem<Vec<Batch>>
     Ok(all)
 }
 
-fn put_in_order(all: Vec<Batch>) -> Mem<Vec<Batch>>
+pub(crate) fn put_in_order(all: Vec<Batch>) -> Mem<Vec<Batch>>
     ensures { IfOk result (λ made. bare made.items ≡ sort_batches (bare all.items)) }
 {
     let mut made = all;
@@ -38,7 +39,7 @@ fn put_in_order(all: Vec<Batch>) -> Mem<Vec<Batch>>
     Ok(made)
 }
 
-fn all_rows(alloc: Global, all: Vec<Batch>) -> Mem<Seq<Row>>
+pub(crate) fn all_rows(alloc: Global, all: Vec<Batch>) -> Mem<Seq<Row>>
     ensures { IfOk result (λ rows. rows ≡ rows_of (bare all.items)) }
 {
     let mut rows = Vec::new(alloc);
@@ -70,4 +71,14 @@ pub(crate) fn some_rows(alloc: Global, rows: &[Row], skip: usize, size: u32) -> 
         made.push(row.copy()?)?;
     }
     Ok(made)
+}
+
+/// Copies of the rows of part `k`, where each part but the last has `size` rows.
+pub(crate) fn rows_of_part(alloc: Global, rows: &[Row], k: u64, size: u32) -> Mem<Seq<Row>>
+    requires sized { 0 < size }
+    requires there { k < part_count_of (length rows.now) size }
+    ensures { IfOk result (λ made. made ≡ take size (drop (k * size) rows.now)) }
+{
+    let skip = k * u64::from(size);
+    some_rows(alloc, rows, skip as usize, size)
 }

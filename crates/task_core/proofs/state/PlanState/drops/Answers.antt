@@ -1,0 +1,35 @@
+use Rattle.std.proofs.Common.{rules, ◌≡◌, ◌≤◌, ◌<◌, ◌-◌, ◌||◌, Bool, ℕ, length, refl, sym, ap, subst, ◌∙◌, arith}
+use Rattle.std.proofs.lemmas.List.{get_or_read}
+use Rattle.plan_machine.specs.After.{is_done}
+use Rattle.task_core.specs.Told.{given_by, state_of}
+use Rattle.task_core.specs.declared.stage.Stage.{Stage}
+use Rattle.task_core.specs.Delivering.{IsFlying, is_dropped}
+use Rattle.task_core.proofs.Delivering.{drops_by}
+use Rattle.task_core.proofs.state.PlanState.drops.Goals as goal
+
+pub overflow_sub-node : goal.overflow_sub-node
+overflow_sub-node g c =
+    let p = c.self.inside in
+    let due = subst (λ t. IsFlying t c.args.worker c.args.node) (sym c.self.view_is) c.requires.flying in
+    let by = drops_by _ _ _ (given_by p.plan.nodes p.sources p.setting) p.history.items p.infos.items p.stages.items p.queues.items _ p.seats.items p.failed p.flying p.room _ c.args.worker c.args.node due.task c.self.invariant due.flies due.at_node in
+    by.0
+
+pub index-requires : goal.index-requires
+index-requires g c =
+    let p = c.self.inside in
+    let due = subst (λ t. IsFlying t c.args.worker c.args.node) (sym c.self.view_is) c.requires.flying in
+    let by = drops_by _ _ _ (given_by p.plan.nodes p.sources p.setting) p.history.items p.infos.items p.stages.items p.queues.items _ p.seats.items p.failed p.flying p.room _ c.args.worker c.args.node due.task c.self.invariant due.flies due.at_node in
+    let within : c.args.node - 1 < length p.stages.items = by.1 in
+    let same = p.stages.ok.0 in
+    omega arith
+
+pub returns-else-self : goal.returns-else-self
+returns-else-self g c =
+    let p = c.self.inside in
+    let due = subst (λ t. IsFlying t c.args.worker c.args.node) (sym c.self.view_is) c.requires.flying in
+    let by = drops_by _ _ _ (given_by p.plan.nodes p.sources p.setting) p.history.items p.infos.items p.stages.items p.queues.items _ p.seats.items p.failed p.flying p.room _ c.args.worker c.args.node due.task c.self.invariant due.flies due.at_node in
+    let st = c.index.result.now in
+    let phase = ap (λ (x : Stage). x.phase) c.index.ensures ∙ by.2 st in
+    let sound = sym c.self.invariant.stored.failed_is ∙ c.if-self.false in
+    subst (λ t. c.is_over.result ≡ is_dropped t c.args.node) c.self.view_is
+    (c.is_over.ensures ∙ ap is_done phase ∙ sym (ap (λ (b : Bool). b || is_done ((state_of (record { given = given_by p.plan.nodes p.sources p.setting; history = p.history.items; room = p.room })).phase c.args.node)) sound))
