@@ -1,6 +1,5 @@
 //! The rows of gathered batches, in the order of the batches' indexes.
-ghost use Rattle.std.specs.Prelude.{◌≡◌, IfOk, length, take, drop, ◌*◌, ◌<◌};
-ghost use Rattle.plan_machine.specs.Phases.{part_count_of};
+ghost use Rattle.std.specs.Prelude.{◌≡◌, IfOk, take, drop, ◌*◌};
 ghost use Rattle.plan_machine.specs.Batch.{key_of, sort_batches, rows_of, gathered};
 ghost use Rattle.plan_nodes.specs.Operators.{flat};
 ghost use Rattle.plan_nodes.specs.Examples.{bare, first_kinds};
@@ -83,12 +82,14 @@ fn some_rows(alloc: Global, rows: &[Row], skip: usize, size: u32) -> Mem<Seq<Row
     Ok(made)
 }
 
-/// Copies of the rows of part `k`, where each part but the last has `size` rows.
+/// Copies of the rows of part `k`, where each part but the last has `size` rows. Behind the last there are none.
 pub fn rows_of_part(alloc: Global, rows: &[Row], k: u64, size: u32) -> Mem<Seq<Row>>
-    requires sized { 0 < size }
-    requires there { k < part_count_of (length rows.now) size }
     ensures { IfOk result (λ made. made ≡ take size (drop (k * size) rows.now)) }
 {
-    let skip = k * u64::from(size);
+    let count = rows.len() as u64;
+    let skip = match k.checked_mul(u64::from(size)) {
+        Some(skip) => skip.min(count),
+        None => count,
+    };
     some_rows(alloc, rows, skip as usize, size)
 }

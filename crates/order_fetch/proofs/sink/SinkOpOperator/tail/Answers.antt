@@ -6,7 +6,7 @@ use Rattle.order_fetch.proofs.sink.SinkOpOperator.tail.Goals as goal
 
 pub of_rows-requires : goal.of_rows-requires
 of_rows-requires c =
-    let s = c.requires.stands in
+    let s = c.requires in
     let kinds : c.in_ok-kinds.kinds ≡ c.args.shared.now.kinds = cc (c.in_ok-kinds.ensures, c.as_slice-2.ensures) in
     let rows : c.in_ok-rows.rows ≡ take c.args.self.now.batch (drop (c.args.k * c.args.self.now.batch) c.args.shared.now.rows) = cc (c.in_ok-rows.ensures, c.as_slice.ensures) in
     ap₂ fit_kinds kinds rows

@@ -14,7 +14,7 @@ of_rows-out-requires c =
     ∙ projected-fit c.args.self.now.schema c.args.self.now.list s.0 c.args.batch.now.kinds c.args.batch.now.rows s.3 s.6 c.rows.ensures.fits
 
 pub returns : goal.returns
-returns c inputs built taken fits shared local same =
+returns c streams inputs built taken fits shared local same =
     let kinds : c.in_ok-kinds.kinds ≡ map (λ e. ok_or_lgl (typed c.args.self.now.schema e)) c.args.self.now.list = cc (c.in_ok-kinds.ensures, c.as_slice-list.ensures) in
     let rows : c.in_ok-rows.rows ≡ projected c.args.self.now.list c.args.batch.now.rows = cc (c.in_ok-rows.ensures, c.as_slice-list.ensures, c.rows.ensures.rows) in
     let made_rows : c.of_rows-out.result.rows ≡ c.in_ok-rows.rows = cc c.of_rows-out.ensures in
