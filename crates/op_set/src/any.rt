@@ -1,7 +1,7 @@
 //! An operator of any kind. What it does is that of the operator that it is.
 ghost use Rattle.std.specs.Prelude.{◌≡◌, List, [], map, IfOk, IsOk};
 
-use crate::parts::sink_parts;
+use crate::parts::{no_rows, sink_parts};
 use column_batch::Batch;
 use order_fetch::{Gathered, SinkOp};
 use plan_machine::OpShape;
@@ -83,7 +83,7 @@ impl Operator for AnyOp {
     fn fold(&self, alloc: Global, local: &mut AnyLocal, batch: Batch) -> Mem<()> {
         match (self, local) {
             (AnyOp::Sink(op), AnyLocal::Sink(part)) => op.fold(alloc, part, batch),
-            _ => unreachable!(),
+            _ => Ok(()),
         }
     }
 
@@ -117,7 +117,10 @@ impl Operator for AnyOp {
         match self {
             AnyOp::Filter(op) => op.stream(alloc, &NoPart, &mut NoPart, batch, from),
             AnyOp::Project(op) => op.stream(alloc, &NoPart, &mut NoPart, batch, from),
-            AnyOp::Sink(_) => unreachable!(),
+            AnyOp::Sink(_) => {
+                let out = no_rows(alloc);
+                Ok(Streamed { out, next: None })
+            }
         }
     }
 
@@ -137,14 +140,14 @@ impl Operator for AnyOp {
     fn tails(&self, shared: &AnyShared) -> u64 {
         match (self, shared) {
             (AnyOp::Sink(op), AnyShared::Sink(gathered)) => op.tails(gathered),
-            _ => unreachable!(),
+            _ => 0,
         }
     }
 
     fn tail(&self, alloc: Global, shared: &AnyShared, k: u64) -> Mem<Batch> {
         match (self, shared) {
             (AnyOp::Sink(op), AnyShared::Sink(gathered)) => op.tail(alloc, gathered, k),
-            _ => unreachable!(),
+            _ => Ok(no_rows(alloc)),
         }
     }
 }

@@ -7,6 +7,11 @@ use column_batch::Batch;
 use scalar_value::{Mem, Seq};
 use std::alloc::Global;
 
+/// A batch without columns and rows, where an operator has nothing to give.
+pub(crate) fn no_rows(alloc: Global) -> Batch {
+    Batch::of_rows(None, Seq::new(alloc), Seq::new(alloc))
+}
+
 fn sink_part(alloc: Global, local: AnyLocal) -> Seq<Batch>
     ensures { result ≡ batches_of local }
 {
