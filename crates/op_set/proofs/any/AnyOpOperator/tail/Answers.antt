@@ -1,0 +1,4 @@
+use Rattle.op_set.proofs.any.AnyOpOperator.tail.Goals as goal
+
+pub returns-in-Sink-Sink : goal.returns-in-Sink-Sink
+returns-in-Sink-Sink c = rw (c.in-Sink-Sink.is-0, c.in-Sink-Sink.is-1) c.tail.ensures

@@ -1,0 +1,42 @@
+//! The operator of a node.
+ghost use Rattle.std.specs.Prelude.{◌≡◌, ◌<◌, map, IfOk, false};
+ghost use Rattle.column_batch.specs.Batches.{kinds_of};
+ghost use Rattle.plan_nodes.specs.Kinds.{kind_meaning, is_source};
+ghost use Rattle.plan_nodes.specs.Operators.{first_of};
+ghost use Rattle.op_set.specs.Joins.{is_join};
+
+use crate::any::AnyOp;
+use order_fetch::SinkOp;
+use plan_nodes::{Node, NodeKind, Operator};
+use row_table::Schema;
+use scalar_value::{Mem, Seq};
+use std::alloc::Global;
+use stream_ops::{FilterOp, ProjectOp};
+
+fn first_schema(alloc: Global, inputs: &[&Schema]) -> Mem<Schema>
+    ensures { IfOk result (λ schema. kinds_of schema ≡ first_of (map (λ s. kinds_of s.now) inputs.now)) }
+{
+    match inputs.first() {
+        Some(schema) => schema.copy(),
+        None => Ok(Seq::new(alloc)),
+    }
+}
+
+/// The operator of a node that is no source and no hashjoin, over inputs with these columns, where batches have `batch`
+/// rows. The only error is want of memory.
+pub fn op_of(alloc: Global, node: &Node, inputs: &[&Schema], batch: u32) -> Mem<AnyOp>
+    requires no_source { is_source node.now.kind ≡ false }
+    requires no_join { is_join node.now.kind ≡ false }
+    requires sized { 0 < batch }
+    ensures { IfOk result (λ made. ⟦<AnyOp as Operator>⟧.meaning made ≡ kind_meaning node.now.kind (map (λ s. kinds_of s.now) inputs.now) batch) }
+{
+    match &node.kind {
+        NodeKind::Filter(condition) => Ok(AnyOp::Filter(FilterOp::new(condition.copy()?))),
+        NodeKind::Project(list) => {
+            let schema = first_schema(alloc, inputs)?;
+            Ok(AnyOp::Project(ProjectOp::new(list.copy()?, schema)))
+        }
+        NodeKind::Sink => Ok(AnyOp::Sink(SinkOp::new(batch))),
+        NodeKind::Source(_) | NodeKind::HashJoin(_) => unreachable!(),
+    }
+}

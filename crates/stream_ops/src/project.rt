@@ -1,0 +1,159 @@
+//! Acero's project node: for each row of a batch the values of expressions, as dplyr's `mutate` and `select`.
+ghost use Rattle.std.specs.Prelude.{◌≡◌, IfOk, IsOk, Ok, IsTrue, [], List, map};
+ghost use Rattle.na_expr.specs.Evaluation.{val};
+ghost use Rattle.na_expr.specs.Types.{typed};
+ghost use Rattle.column_batch.specs.Batches.{kinds_of};
+ghost use Rattle.plan_nodes.specs.Kinds.{projected, project_meaning, ok_or_lgl};
+
+use crate::part::NoPart;
+use column_batch::Batch;
+use na_expr::{Expr, eval_row, type_of};
+use plan_machine::OpShape;
+use plan_nodes::{Operator, Streamed};
+use row_table::{Row, Schema};
+use scalar_value::{ColType, Mem, Seq};
+use std::alloc::Global;
+use std::thread::Threads;
+
+/// The operator of a project: a column for each expression, and a row for each row, in the order of its input.
+#[derive(Debug, Drop)]
+pub struct ProjectOp {
+    list: Seq<Expr>,
+    schema: Schema,
+}
+
+fn kind_of(e: &Expr, schema: &Schema) -> ColType
+    ensures { result ≡ ok_or_lgl (typed schema.now e.now) }
+{
+    match type_of(e, schema) {
+        Ok(kind) => kind,
+        Err(_) => ColType::Lgl,
+    }
+}
+
+fn kinds_made(alloc: Global, list: &[Expr], schema: &Schema) -> Mem<Seq<ColType>>
+    ensures { IfOk result (λ kinds. kinds ≡ map (λ e. ok_or_lgl (typed schema.now e)) list.now) }
+{
+    let mut kinds = Seq::new(alloc);
+    for e in list {
+        kinds.push(kind_of(e, schema))?;
+    }
+    Ok(kinds)
+}
+
+fn row_made(alloc: Global, list: &[Expr], row: &Row) -> Mem<Row>
+    ensures { IfOk result (λ made. made ≡ map (val row.now) list.now) }
+{
+    let mut made = Seq::new(alloc);
+    for e in list {
+        made.push(eval_row(alloc, e, row)?)?;
+    }
+    Ok(made)
+}
+
+fn rows_made(alloc: Global, list: &[Expr], rows: &[Row]) -> Mem<Seq<Row>>
+    ensures { IfOk result (λ made. made ≡ projected list.now rows.now) }
+{
+    let mut made = Seq::new(alloc);
+    for row in rows {
+        made.push(row_made(alloc, list, row)?)?;
+    }
+    Ok(made)
+}
+
+impl ProjectOp {
+    /// The operator that gives the values of these expressions over an input with these columns. Takes no memory.
+    pub fn new(list: Seq<Expr>, schema: Schema) -> ProjectOp
+        ensures { ⟦<ProjectOp as Operator>⟧.meaning result ≡ project_meaning list (kinds_of schema) }
+    {
+        ProjectOp { list, schema }
+    }
+}
+
+impl Operator for ProjectOp {
+    type Local = NoPart;
+
+    type Shared = NoPart;
+
+    ghost meaning = { λ o. project_meaning o.list (kinds_of o.schema) };
+
+    ghost local_is = { λ m kinds part taken. Unit {0} };
+
+    ghost shared_is = { λ m inputs part built streamed. Unit {0} };
+
+    fn shape(&self) -> OpShape {
+        OpShape {
+            folds: false,
+            streams: true,
+            tails: false,
+        }
+    }
+
+    fn wanted(&self) -> Option<u64> {
+        None
+    }
+
+    fn local(&self, _alloc: Global) -> Mem<NoPart> {
+        Ok(NoPart)
+    }
+
+    fn begin(&self, _alloc: Global) -> Mem<NoPart> {
+        Ok(NoPart)
+    }
+
+    /// A project gathers nothing.
+    fn fold(&self, _alloc: Global, _local: &mut NoPart, _batch: Batch) -> Mem<()>
+        ensures { result ≡ Ok tt }
+    {
+        Ok(())
+    }
+
+    /// A project gathers nothing.
+    fn seal<R: Threads + Sync>(&self, _rt: &R, _alloc: Global, _locals: Seq<NoPart>) -> Mem<NoPart>
+        ensures { IsOk result }
+    {
+        Ok(NoPart)
+    }
+
+    fn stream(
+        &self,
+        alloc: Global,
+        _shared: &NoPart,
+        _local: &mut NoPart,
+        batch: &Batch,
+        _from: u64,
+    ) -> Mem<Streamed> {
+        let list = self.list.as_slice();
+        let kinds = kinds_made(alloc, list, &self.schema)?;
+        let rows = rows_made(alloc, list, batch.rows())?;
+        let out = Batch::of_rows(batch.index(), kinds, rows);
+        Ok(Streamed { out, next: None })
+    }
+
+    /// A project keeps nothing for its end.
+    fn close<R: Threads + Sync>(
+        &self,
+        _rt: &R,
+        _alloc: Global,
+        _shared: &NoPart,
+        _locals: Seq<NoPart>,
+    ) -> Mem<NoPart>
+        ensures { IsOk result }
+    {
+        Ok(NoPart)
+    }
+
+    /// A project gives no rows at its end.
+    fn tails(&self, _shared: &NoPart) -> u64
+        ensures { result ≡ 0 }
+    {
+        0
+    }
+
+    /// A project gives no rows at its end.
+    fn tail(&self, alloc: Global, _shared: &NoPart, _k: u64) -> Mem<Batch>
+        ensures { IfOk result (λ made. made.rows ≡ []) }
+    {
+        Ok(Batch::of_rows(None, Seq::new(alloc), Seq::new(alloc)))
+    }
+}
