@@ -12,3 +12,4 @@ pub mod Known
 pub mod Delivering
 pub mod Opening
 pub mod Openings
+pub mod Shares

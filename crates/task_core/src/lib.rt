@@ -14,6 +14,7 @@ mod queue;
 mod result;
 mod room;
 mod setting;
+mod shares;
 mod stage;
 mod stages;
 mod state;

@@ -1,0 +1,40 @@
+-- Shares of a node as a run begins.
+use Rattle.std.specs.Prelude.{◌≡◌, ℕ, ◌<◌, List, [], length, Option, Some, None, slice_index_or}
+use Rattle.std.specs.declared.alloc.Global.{Global}
+use Rattle.std.specs.declared.sync.Arc.{Arc}
+use Rattle.std.specs.Arc.{arc_value}
+use Rattle.scalar_value.specs.declared.value.Value.{Value}
+use Rattle.scalar_value.specs.declared.value.ColType.{ColType}
+use Rattle.row_table.specs.Tables.{TableValue}
+use Rattle.plan_machine.specs.Batch.{Batch}
+use Rattle.plan_nodes.specs.Operators.{OpMeaning}
+use Rattle.task_work.specs.declared.work.Part.{Part}
+use Rattle.task_work.specs.declared.work.Share.{Share}
+use Rattle.task_work.specs.declared.work.Share.TheVariants as share
+
+module _ {O S L : Type 0}
+    (meaning : O → OpMeaning)
+    (local_is : OpMeaning → List ColType → L → List (Batch (List Value)) → Type 0)
+    (shared_is : OpMeaning → List (List ColType) → S → List (List Value) → List (Batch (List Value)) → Type 0)
+  where
+    -- a share of this table
+    abbrev pub IsTableShare : TableValue → Option (Share O S L) → Type 0
+    IsTableShare table None = ⊥
+    IsTableShare table (Some (share.Table t)) = arc_value t ≡ table
+    IsTableShare table (Some (share.Part p)) = ⊥
+
+    -- a part of this operator, in which nothing was gathered, streamed or taken
+    pub record IsFreshPart (op : O) (p : Part O S L) : Type 0 where
+      pub operator : arc_value p.op ≡ op
+      pub shared : (inputs : List (List ColType)) → shared_is (meaning op) inputs (arc_value p.shared) [] []
+      pub local : (kinds : List ColType) → local_is (meaning op) kinds p.local []
+
+    abbrev pub IsPartShare : O → Option (Share O S L) → Type 0
+    IsPartShare op None = ⊥
+    IsPartShare op (Some (share.Table t)) = ⊥
+    IsPartShare op (Some (share.Part p)) = IsFreshPart op p
+
+    -- one for each worker
+    pub record EachWorker (workers : ℕ) (is : Option (Share O S L) → Type 0) (row : List (Option (Share O S L))) : Type 0 where
+      pub size : length row ≡ workers
+      pub each : (k : ℕ) → k < workers → is (slice_index_or row k None)
