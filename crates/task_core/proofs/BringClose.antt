@@ -73,18 +73,18 @@ module _ {O S L : Type 0}
         let st = slice_index_or stages p d in
         let old = stage_landed meaning local_is shared_is g s stages q p t d worker flies refl within h.stored.stages_are in
         let row_at : RowAt meaning local_is shared_is g (suc p) s.failed Tailing (s.locals (suc p)) (s.built (suc p)) took (upd s.tasks (suc q) None) row =
-            row_new meaning local_is shared_is v (nat_eq (suc p) P.sink) s.failed Tailing (s.locals (suc p)) (s.built (suc p)) t0.built took took (upd s.tasks (suc q) None) (suc p) (first_of v.inputs) row row_is
-            (λ m part lt is_part. subst (λ (x : List (List Value)). IsShared meaning local_is shared_is v x took part) k.built is_part.is_shared) in
+        row_new meaning local_is shared_is v (nat_eq (suc p) P.sink) s.failed Tailing (s.locals (suc p)) (s.built (suc p)) t0.built took took (upd s.tasks (suc q) None) (suc p) (first_of v.inputs) row row_is
+        (λ m part lt is_part. subst (λ (x : List (List Value)). IsShared meaning local_is shared_is v x took part) k.built is_part.is_shared) in
         let stage_at : StageIs P (suc p) Tailing (s.next (suc p)) (s.built (suc p)) took (length (flying P (upd s.tasks (suc q) None) (suc p))) (in_phase (less_busy st) Tailing given) =
-            record {
-              is_phase = refl;
-              is_next = old.is_next;
-              emits = λ e. cc;
-              ends = λ e.
-                  subst (λ (x : List (List Value)). given ≡ parts P.batch ((P.node (suc p)).rest x (rows_of took))) k.built
-                  (ends_in g (suc p) t0.built took given fits.3 count_is);
-              busy = old.busy;
-            } in
+        record {
+          is_phase = refl;
+          is_next = old.is_next;
+          emits = λ e. cc;
+          ends = λ e.
+              subst (λ (x : List (List Value)). given ≡ parts P.batch ((P.node (suc p)).rest x (rows_of took))) k.built
+              (ends_in g (suc p) t0.built took given fits.3 count_is);
+          busy = old.busy;
+        } in
         whole_at meaning local_is shared_is g es phase' s.built streamed' infos stages stages' queues rows rows' row seats seats' failed count count' room capacity capacity' q p t (in_phase (less_busy st) Tailing given) h worker flies refl
         is
         (record { phases = λ n ne. upd-else s.phase (suc p) Tailing n ne; lists = λ n ne. refl; builds = λ n ne. refl; streams = λ n ne. upd-else s.streamed (suc p) took n ne })

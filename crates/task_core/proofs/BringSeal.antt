@@ -119,21 +119,21 @@ module _ {O S L : Type 0}
           let st = slice_index_or stages p d in
           let old = stage_landed meaning local_is shared_is g s stages q p t d worker flies refl within h.stored.stages_are in
           let row_at : RowAt meaning local_is shared_is g (suc p) s.failed after_seal (s.locals (suc p)) built (s.streamed (suc p)) (upd s.tasks (suc q) None) row =
-              row_new meaning local_is shared_is v (nat_eq (suc p) P.sink) s.failed after_seal (s.locals (suc p)) built built (s.streamed (suc p)) [] (upd s.tasks (suc q) None) (suc p) (first_of v.inputs) row row_is
-              (λ m part lt is_part.
-                  let same_workers = site_workers g (suc p) in
-                  new_part v (nat_eq (suc p) P.sink) a b (s.locals (suc p) (suc m)) built (s.streamed (suc p)) part (gather_nil P.workers (suc m) (s.locals (suc p)) (omega arith) (omega arith) away.1) none is_part) in
+          row_new meaning local_is shared_is v (nat_eq (suc p) P.sink) s.failed after_seal (s.locals (suc p)) built built (s.streamed (suc p)) [] (upd s.tasks (suc q) None) (suc p) (first_of v.inputs) row row_is
+          (λ m part lt is_part.
+          let same_workers = site_workers g (suc p) in
+          new_part v (nat_eq (suc p) P.sink) a b (s.locals (suc p) (suc m)) built (s.streamed (suc p)) part (gather_nil P.workers (suc m) (s.locals (suc p)) (omega arith) (omega arith) away.1) none is_part) in
           let stage_at : StageIs P (suc p) after_seal (s.next (suc p)) built (s.streamed (suc p)) (length (flying P (upd s.tasks (suc q) None) (suc p))) (in_phase (less_busy st) ph given) =
-              record {
-                is_phase = phase_is;
-                is_next = old.is_next;
-                emits = λ e. absurd (never_emits a b e);
-                ends = λ e.
-                    let only = only_tails a b e in
-                    subst (λ (l : List (Batch (List Value))). given ≡ parts P.batch ((P.node (suc p)).rest built (rows_of l))) (sym none)
-                    (ends_in g (suc p) built [] given only.1 (count_is (streams_is g (suc p) ∙ only.0)));
-                busy = old.busy;
-              } in
+          record {
+            is_phase = phase_is;
+            is_next = old.is_next;
+            emits = λ e. absurd (never_emits a b e);
+            ends = λ e.
+                let only = only_tails a b e in
+                subst (λ (l : List (Batch (List Value))). given ≡ parts P.batch ((P.node (suc p)).rest built (rows_of l))) (sym none)
+                (ends_in g (suc p) built [] given only.1 (count_is (streams_is g (suc p) ∙ only.0)));
+            busy = old.busy;
+          } in
           whole_at meaning local_is shared_is g es phase' built' s.streamed infos stages stages' queues rows rows' row seats seats' failed count count' room capacity capacity' q p t (in_phase (less_busy st) ph given) h worker flies refl
           is
           (record { phases = λ n ne. upd-else s.phase (suc p) after_seal n ne; lists = λ n ne. refl; builds = λ n ne. upd-else s.built (suc p) built n ne; streams = λ n ne. refl })

@@ -86,17 +86,17 @@ module _ {O S L : Type 0}
         let waiting : ℕ → List (Batch (List Value)) = upd s.waiting (suc e) (batches ++ s.waiting (suc e)) in
         let here : waiting (suc e) ≡ s.waiting (suc e) = upd-here s.waiting (suc e) (batches ++ s.waiting (suc e)) ∙ ap (λ (xs : List (Batch (List Value))). xs ++ s.waiting (suc e)) gone.1 in
         let same : (m : ℕ) → s.waiting m ≡ waiting m =
-            λ m. elim (same_or m (suc e)) [
-              | inl q ↦ ap s.waiting q ∙ sym here ∙ ap waiting (sym q)
-              | inr ne ↦ sym (upd-else s.waiting (suc e) (batches ++ s.waiting (suc e)) m ne)
-            ] in
+        λ m. elim (same_or m (suc e)) [
+          | inl q ↦ ap s.waiting q ∙ sym here ∙ ap waiting (sym q)
+          | inr ne ↦ sym (upd-else s.waiting (suc e) (batches ++ s.waiting (suc e)) m ne)
+        ] in
         subst (λ (xs : List Queue). AllQueues meaning local_is shared_is g waiting s.paused (λ m. max (most m) (length (waiting m))) xs) (sym (put.none gone.0))
         (held_map
         (λ n q. QueueIs (site_of g n).columns (goes_on P n) (P.pause + P.workers) (s.waiting n) (s.paused n) (most n) q)
         (λ n q. QueueIs (site_of g n).columns (goes_on P n) (P.pause + P.workers) (waiting n) (s.paused n) (max (most n) (length (waiting n))) q) queues h
         (λ n q old.
-            subst (λ (xs : List (Batch (List Value))). QueueIs (site_of g n).columns (goes_on P n) (P.pause + P.workers) xs (s.paused n) (max (most n) (length xs)) q) (same n)
-            (subst (λ m. QueueIs (site_of g n).columns (goes_on P n) (P.pause + P.workers) (s.waiting n) (s.paused n) m q) (covers n) old)))
+        subst (λ (xs : List (Batch (List Value))). QueueIs (site_of g n).columns (goes_on P n) (P.pause + P.workers) xs (s.paused n) (max (most n) (length xs)) q) (same n)
+        (subst (λ m. QueueIs (site_of g n).columns (goes_on P n) (P.pause + P.workers) (s.waiting n) (s.paused n) m q) (covers n) old)))
     rest_queues s most queues queues' e p rest t batches covers h (inr (w, left)) put within user from =
         let P = plan_of g in
         let d = some_of e queues within in
@@ -122,19 +122,20 @@ module _ {O S L : Type 0}
         let most1 : ℕ → ℕ = λ m. max (most m) (length (waiting m)) in
         let own : waiting (suc p) ≡ s.waiting (suc p) = upd-else s.waiting e (batches ++ s.waiting e) (suc p) apart in
         let put = queues_back (λ n. (site_of g n).columns) (goes_on P) (P.pause + P.workers) s.paused waiting most1 queues p d made.0 (record { batch = out; from = 0 }) b within
-            (λ m. let m1 : most1 m ≡ max (most1 m) (length (waiting m)) = omega arith in m1) h made.2 (record { columns_are = columns; starts = inr refl }) is in
-        let longer : (m : ℕ) → length (waiting m) ≤ length (upd waiting (suc p) (waiting (suc p) ++ b ∷ []) m) = λ m. let l = put-length waiting (suc p) m b in omega arith in
-        (ap (λ (xs : List Queue). length xs) made.1 ∙ length-set queues p made.0,
-        subst (λ (xs : List Queue). AllQueues meaning local_is shared_is g (upd waiting (suc p) (s.waiting (suc p) ++ b ∷ [])) s.paused (λ m. max (most m) (length (upd waiting (suc p) (s.waiting (suc p) ++ b ∷ []) m))) xs) (sym made.1)
-        (subst (λ (ys : List (Batch (List Value))). AllQueues meaning local_is shared_is g (upd waiting (suc p) (ys ++ b ∷ [])) s.paused (λ m. max (most m) (length (upd waiting (suc p) (ys ++ b ∷ []) m))) (slice_set queues p made.0)) own
-        (held_map
-        (λ n q. QueueIs (site_of g n).columns (goes_on P n) (P.pause + P.workers) (upd waiting (suc p) (waiting (suc p) ++ b ∷ []) n) (s.paused n) (max (most1 n) (length (upd waiting (suc p) (waiting (suc p) ++ b ∷ []) n))) q)
-        (λ n q. QueueIs (site_of g n).columns (goes_on P n) (P.pause + P.workers) (upd waiting (suc p) (waiting (suc p) ++ b ∷ []) n) (s.paused n) (max (most n) (length (upd waiting (suc p) (waiting (suc p) ++ b ∷ []) n))) q)
-        (slice_set queues p made.0) put
-        (λ n q old.
-            let less = longer n in
-            let same : max (most1 n) (length (upd waiting (suc p) (waiting (suc p) ++ b ∷ []) n)) ≡ max (most n) (length (upd waiting (suc p) (waiting (suc p) ++ b ∷ []) n)) = omega arith in
-            subst (λ m. QueueIs (site_of g n).columns (goes_on P n) (P.pause + P.workers) (upd waiting (suc p) (waiting (suc p) ++ b ∷ []) n) (s.paused n) m q) same old))))
+        (λ m. let m1 : most1 m ≡ max (most1 m) (length (waiting m)) = omega arith in m1) h made.2 (record { columns_are = columns; starts = inr refl }) is in
+        let longer : (m : ℕ) → length (waiting m) ≤ length (upd waiting (suc p) (waiting (suc p) ++ b ∷ []) m) = λ m. let l = put-length waiting (suc p) m b in omega arith in (
+          ap (λ (xs : List Queue). length xs) made.1 ∙ length-set queues p made.0,
+          subst (λ (xs : List Queue). AllQueues meaning local_is shared_is g (upd waiting (suc p) (s.waiting (suc p) ++ b ∷ [])) s.paused (λ m. max (most m) (length (upd waiting (suc p) (s.waiting (suc p) ++ b ∷ []) m))) xs) (sym made.1)
+              (subst (λ (ys : List (Batch (List Value))). AllQueues meaning local_is shared_is g (upd waiting (suc p) (ys ++ b ∷ [])) s.paused (λ m. max (most m) (length (upd waiting (suc p) (ys ++ b ∷ []) m))) (slice_set queues p made.0)) own
+              (held_map
+              (λ n q. QueueIs (site_of g n).columns (goes_on P n) (P.pause + P.workers) (upd waiting (suc p) (waiting (suc p) ++ b ∷ []) n) (s.paused n) (max (most1 n) (length (upd waiting (suc p) (waiting (suc p) ++ b ∷ []) n))) q)
+              (λ n q. QueueIs (site_of g n).columns (goes_on P n) (P.pause + P.workers) (upd waiting (suc p) (waiting (suc p) ++ b ∷ []) n) (s.paused n) (max (most n) (length (upd waiting (suc p) (waiting (suc p) ++ b ∷ []) n))) q)
+              (slice_set queues p made.0) put
+              (λ n q old.
+              let less = longer n in
+              let same : max (most1 n) (length (upd waiting (suc p) (waiting (suc p) ++ b ∷ []) n)) ≡ max (most n) (length (upd waiting (suc p) (waiting (suc p) ++ b ∷ []) n)) = omega arith in
+              subst (λ m. QueueIs (site_of g n).columns (goes_on P n) (P.pause + P.workers) (upd waiting (suc p) (waiting (suc p) ++ b ∷ []) n) (s.paused n) m q) same old))),
+        )
 
     -- what is known of a Stream whose delivery lands
     record StreamAt (es : List Entry) (q p e : ℕ) (t : Task (List Value)) (rest : Option Waiting) : Type 0 where
@@ -294,10 +295,10 @@ module _ {O S L : Type 0}
         let own : List (Batch (List Value)) = s.waiting (suc (n - 1)) ++ sent P t ∷ [] in
         let one : length (back P t) ≡ 1 = elim k.left [ inl gone ↦ let no_rest = gone.0 in cc | inr left ↦ ap (λ (xs : List (Batch (List Value))). length xs) left.1.batch ] in
         let waits : (after P s (Deliver (suc (w - 1)))).waiting e ≡ back P t ++ s.waiting e =
-            ap (λ (y : State (List Value)). y.waiting e) k.is
-            ∙ upd-else waiting (suc (n - 1)) own e (λ y. k.apart (sym y))
-            ∙ ap (λ (m : ℕ). upd s.waiting m (back P t ++ s.waiting m) e) at.from
-            ∙ upd-here s.waiting e (back P t ++ s.waiting e) in
+        ap (λ (y : State (List Value)). y.waiting e) k.is
+        ∙ upd-else waiting (suc (n - 1)) own e (λ y. k.apart (sym y))
+        ∙ ap (λ (m : ℕ). upd s.waiting m (back P t ++ s.waiting m) e) at.from
+        ∙ upd-here s.waiting e (back P t ++ s.waiting e) in
         let long = ap (λ (xs : List (Batch (List Value))). length xs) waits in
         let more = length-append (back P t) (s.waiting e) in
         subst (λ m. HasRoom queues m) at.at_edge
@@ -326,6 +327,6 @@ module _ {O S L : Type 0}
         let apart : n - 1 ≢ edge - 1 = λ y. k.apart (ap suc y) in
         let else = rest_else queues queues1 (edge - 1) (n - 1) rest t (back P t) (site_of g (suc (n - 1))).meaning.cuts (first_of (site_of g (suc (n - 1))).inputs) k.left rest_put within apart in
         let room_there : HasRoom queues n =
-            subst (λ m. HasRoom queues m) at.at_node
-            (room_on meaning local_is shared_is g es infos stages queues rows seats failed count room capacity (suc (w - 1)) (n - 1) t h at.brings.worker at.brings.flies k.own (omega arith)) in
+        subst (λ m. HasRoom queues m) at.at_node
+        (room_on meaning local_is shared_is g es infos stages queues rows seats failed count room capacity (suc (w - 1)) (n - 1) t h at.brings.worker at.brings.flies k.own (omega arith)) in
         room_moved queues queues1 n room_there else.0 else.1

@@ -80,11 +80,11 @@ module _ {O S L : Type 0}
         held_set (λ n x. RowAt n s.failed (s.phase n) (s.locals n) (s.built n) (s.streamed n) s.tasks x)
         (λ n x. RowAt n s.failed (phase n) (locals n) (built n) (streamed n) (upd s.tasks w None) x) rows p row h is
         (λ n x ne old.
-            let left = row_left meaning local_is shared_is (site_of g n) (nat_eq n (plan_of g).sink) s.failed (s.phase n) (s.locals n) (s.built n) (s.streamed n) s.tasks w n t x busy (λ sound live e. ne (sym e ∙ here)) old in
-            let a = subst (λ y. RowAt n s.failed y (s.locals n) (s.built n) (s.streamed n) (upd s.tasks w None) x) (sym (o.phases n ne)) left in
-            let b = subst (λ y. RowAt n s.failed (phase n) y (s.built n) (s.streamed n) (upd s.tasks w None) x) (sym (o.lists n ne)) a in
-            let c = subst (λ y. RowAt n s.failed (phase n) (locals n) y (s.streamed n) (upd s.tasks w None) x) (sym (o.builds n ne)) b in
-            subst (λ y. RowAt n s.failed (phase n) (locals n) (built n) y (upd s.tasks w None) x) (sym (o.streams n ne)) c)
+        let left = row_left meaning local_is shared_is (site_of g n) (nat_eq n (plan_of g).sink) s.failed (s.phase n) (s.locals n) (s.built n) (s.streamed n) s.tasks w n t x busy (λ sound live e. ne (sym e ∙ here)) old in
+        let a = subst (λ y. RowAt n s.failed y (s.locals n) (s.built n) (s.streamed n) (upd s.tasks w None) x) (sym (o.phases n ne)) left in
+        let b = subst (λ y. RowAt n s.failed (phase n) y (s.built n) (s.streamed n) (upd s.tasks w None) x) (sym (o.lists n ne)) a in
+        let c = subst (λ y. RowAt n s.failed (phase n) (locals n) y (s.streamed n) (upd s.tasks w None) x) (sym (o.builds n ne)) b in
+        subst (λ y. RowAt n s.failed (phase n) (locals n) (built n) y (upd s.tasks w None) x) (sym (o.streams n ne)) c)
 
     -- what was stored, but for the parts that the delivery writes
     pub stored_landed : (s : State (List Value)) (phase : ℕ → Phase) (locals : ℕ → ℕ → List (Batch (List Value))) (built : ℕ → List (List Value)) (streamed folded waiting : ℕ → List (Batch (List Value))) (most most' : ℕ → ℕ) (infos : List NodeInfo) (stages : List Stage) (queues queues' : List Queue) (rows rows' : Shares) (seats : List (Option Flight)) (failed : Bool) (count count' q p : ℕ) (t : Task (List Value)) (st : Stage)
@@ -96,8 +96,8 @@ module _ {O S L : Type 0}
         → length queues' ≡ length queues → AllQueues waiting s.paused most' queues'
         → count' ≡ count - 1
         → Stored meaning local_is shared_is g
-            (record s { phase = phase; locals = locals; built = built; streamed = streamed; folded = folded; waiting = waiting; tasks = upd s.tasks (suc q) None })
-            most' infos (slice_set stages p st) queues' rows' (slice_set seats q None) failed count'
+        (record s { phase = phase; locals = locals; built = built; streamed = streamed; folded = folded; waiting = waiting; tasks = upd s.tasks (suc q) None })
+        most' infos (slice_set stages p st) queues' rows' (slice_set seats q None) failed count'
     stored_landed s phase locals built streamed folded waiting most most' infos stages queues queues' rows rows' seats failed count count' q p t st h worker busy here o stage all_rows rows_are all_queues queues_are less =
         record {
           all_infos = h.all_infos;

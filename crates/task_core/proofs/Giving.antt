@@ -54,11 +54,11 @@ module _ {R : Type 0} (P : MachinePlan R) where
   pub stream_edge : Lawful P → WellFormed P → (es : List Entry) → IsHistory P es → (state_after P es).failed ≡ false → (n : ℕ) → IsNode P n → (state_after P es).phase n ≡ Streaming → IsEdge P n
   stream_edge L W es legal sound n node is =
       not_sink n node (λ e.
-          let started = (run P L W es (opening P) (good-opening P L W) legal sound).good.sound.fit.started in
-          elim (started.streaming n node is) [
-            | inl only ↦ let a = W.sink.folds in let b = ap (λ m. (P.node m).start) e in cc
-            | inr join ↦ let a = W.sink.only_folds.0 in let b = ap (λ m. (P.node m).streams) e in let c = join.1 in cc
-          ])
+      let started = (run P L W es (opening P) (good-opening P L W) legal sound).good.sound.fit.started in
+      elim (started.streaming n node is) [
+        | inl only ↦ let a = W.sink.folds in let b = ap (λ m. (P.node m).start) e in cc
+        | inr join ↦ let a = W.sink.only_folds.0 in let b = ap (λ m. (P.node m).streams) e in let c = join.1 in cc
+      ])
 
 module _ {O S L : Type 0}
     (meaning : O → OpMeaning)

@@ -210,11 +210,11 @@ module _ {O S L : Type 0}
         let at_seat : q < (site_of g (suc p)).workers = let w = site_workers g (suc p) in let most = worker.1 in omega arith in
         let last = nat_eq (suc p) (plan_of g).sink in
         let stands : PartStands meaning local_is shared_is (site_of g (suc p)) last (s.phase (suc p)) (locals (suc p) (suc q)) (s.built (suc p)) (s.streamed (suc p)) share =
-            subst (λ x. PartStands meaning local_is shared_is (site_of g (suc p)) last x (locals (suc p) (suc q)) (s.built (suc p)) (s.streamed (suc p)) share) (sym k.phase)
-            (subst (λ x. PartStands meaning local_is shared_is (site_of g (suc p)) last (phase_of t.job) (locals (suc p) (suc q)) x (s.streamed (suc p)) share) k.built
-            (subst (λ x. PartStands meaning local_is shared_is (site_of g (suc p)) last (phase_of t.job) (locals (suc p) (suc q)) t.built x share) k.streamed part)) in
+        subst (λ x. PartStands meaning local_is shared_is (site_of g (suc p)) last x (locals (suc p) (suc q)) (s.built (suc p)) (s.streamed (suc p)) share) (sym k.phase)
+        (subst (λ x. PartStands meaning local_is shared_is (site_of g (suc p)) last (phase_of t.job) (locals (suc p) (suc q)) x (s.streamed (suc p)) share) k.built
+        (subst (λ x. PartStands meaning local_is shared_is (site_of g (suc p)) last (phase_of t.job) (locals (suc p) (suc q)) t.built x share) k.streamed part)) in
         let placed : RowAt meaning local_is shared_is g (suc p) s.failed (s.phase (suc p)) (locals (suc p)) (s.built (suc p)) (s.streamed (suc p)) (upd s.tasks (suc q) None) row' =
-            row_put meaning local_is shared_is (site_of g (suc p)) last s.failed (s.phase (suc p)) (s.locals (suc p)) (locals (suc p)) (s.built (suc p)) (s.streamed (suc p)) s.tasks q (suc p) t row share full at_seat busy own list_else stands (h.stored.rows_are p e within_rows) in
+        row_put meaning local_is shared_is (site_of g (suc p)) last s.failed (s.phase (suc p)) (s.locals (suc p)) (locals (suc p)) (s.built (suc p)) (s.streamed (suc p)) s.tasks q (suc p) t row share full at_seat busy own list_else stands (h.stored.rows_are p e within_rows) in
         let o : Others meaning local_is shared_is g s s.phase locals s.built s.streamed (suc p) = record { phases = λ n ne. refl; lists = lists_else; builds = λ n ne. refl; streams = λ n ne. refl } in
         subst (λ xs. Stands meaning local_is shared_is g (es ++ Deliver (suc q) ∷ []) infos xs queues' rows' seats' failed count' room capacity') (sym (stages_set d))
         (subst (λ xs. Stands meaning local_is shared_is g (es ++ Deliver (suc q) ∷ []) infos (slice_set stages p st') queues' rows' xs failed count' room capacity') (sym seats_set)

@@ -144,8 +144,8 @@ module _ (P : Plan (List Value)) where
       held_set (λ n x. StageIs P n (phase n) (next n) (built n) (streamed n) (length (flying P tasks n)) x)
       (λ n x. StageIs P n (phase' n) (next n) (built' n) (streamed' n) (length (flying P (upd tasks w None) n)) x) stages p st h is
       (λ n x ne old.
-          let o = others n ne in
-          let a = subst (λ y. StageIs P n y (next n) (built n) (streamed n) (length (flying P tasks n)) x) (sym o.0) old in
-          let b = subst (λ y. StageIs P n (phase' n) (next n) y (streamed n) (length (flying P tasks n)) x) (sym o.1) a in
-          let c = subst (λ y. StageIs P n (phase' n) (next n) (built' n) y (length (flying P tasks n)) x) (sym o.2) b in
-          subst (λ y. StageIs P n (phase' n) (next n) (built' n) (streamed' n) (length y) x) (flight_same tasks w n t busy (λ e. ne (sym e ∙ here))) c)
+      let o = others n ne in
+      let a = subst (λ y. StageIs P n y (next n) (built n) (streamed n) (length (flying P tasks n)) x) (sym o.0) old in
+      let b = subst (λ y. StageIs P n (phase' n) (next n) y (streamed n) (length (flying P tasks n)) x) (sym o.1) a in
+      let c = subst (λ y. StageIs P n (phase' n) (next n) (built' n) y (length (flying P tasks n)) x) (sym o.2) b in
+      subst (λ y. StageIs P n (phase' n) (next n) (built' n) (streamed' n) (length y) x) (flight_same tasks w n t busy (λ e. ne (sym e ∙ here))) c)

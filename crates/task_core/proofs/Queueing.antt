@@ -84,8 +84,8 @@ module _ (columns : ℕ → List ColType) (may : ℕ → Bool) (places : ℕ) (p
       (λ n q. QueueIs (columns n) (may n) places (upd waiting (suc p) list n) (paused n) (max (most n) (length (upd waiting (suc p) list n))) q) queues p q' h
       (subst (λ xs. QueueIs (columns (suc p)) (may (suc p)) places xs (paused (suc p)) (max (most (suc p)) (length xs)) q') (sym (upd-here waiting (suc p) list)) is)
       (λ n q ne old.
-          subst (λ xs. QueueIs (columns n) (may n) places xs (paused n) (max (most n) (length xs)) q) (sym (upd-else waiting (suc p) list n ne))
-          (subst (λ m. QueueIs (columns n) (may n) places (waiting n) (paused n) m q) (covers n) old))
+      subst (λ xs. QueueIs (columns n) (may n) places xs (paused n) (max (most n) (length xs)) q) (sym (upd-else waiting (suc p) list n ne))
+      (subst (λ m. QueueIs (columns n) (may n) places (waiting n) (paused n) m q) (covers n) old))
 
   pub queues_back : (waiting : ℕ → List (Batch (List Value))) (most : ℕ → ℕ) (queues : List Queue) (p : ℕ) (d q' : Queue) (w : Waiting) (b : Batch (List Value))
       → p < length queues → ((e : ℕ) → most e ≡ max (most e) (length (waiting e)))

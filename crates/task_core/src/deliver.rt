@@ -8,7 +8,9 @@ ghost use Rattle.task_core.specs.Told.{plan_of, state_of, with_entry};
 ghost use Rattle.task_core.specs.Calls.{IsDue};
 ghost use Rattle.task_core.specs.Delivering.{IsFlying, is_dropped};
 
-use crate::putting::{begin_phase, depart, first_input, has_ended, put_back, put_rest, put_row, put_share, shape_at};
+use crate::putting::{
+    begin_phase, depart, first_input, has_ended, put_back, put_rest, put_row, put_share, shape_at,
+};
 use crate::state::PlanState;
 use column_batch::Batch;
 use plan_machine::{Phase, phase_after_seal};
@@ -58,7 +60,14 @@ impl<O: Operator> PlanState<O> {
         ensures { self.new ≡ with_entry self.old (EntryOf.Deliver worker) 0 }
     {
         let _room = self.room;
-        depart(&mut self.seats, &mut self.stages, &mut self.history, &mut self.flying, worker, node);
+        depart(
+            &mut self.seats,
+            &mut self.stages,
+            &mut self.history,
+            &mut self.flying,
+            worker,
+            node,
+        );
     }
 
     /// Delivers what a Fold made.
@@ -69,7 +78,14 @@ impl<O: Operator> PlanState<O> {
         ensures { self.new ≡ with_entry self.old (EntryOf.Deliver worker) 0 }
     {
         let _room = self.room;
-        depart(&mut self.seats, &mut self.stages, &mut self.history, &mut self.flying, worker, node);
+        depart(
+            &mut self.seats,
+            &mut self.stages,
+            &mut self.history,
+            &mut self.flying,
+            worker,
+            node,
+        );
         put_share(&mut self.shares, worker, node, Share::Part(part));
     }
 
@@ -81,26 +97,66 @@ impl<O: Operator> PlanState<O> {
         ensures { self.new ≡ with_entry self.old (EntryOf.Deliver worker) 0 }
     {
         let _room = self.room;
-        depart(&mut self.seats, &mut self.stages, &mut self.history, &mut self.flying, worker, node);
+        depart(
+            &mut self.seats,
+            &mut self.stages,
+            &mut self.history,
+            &mut self.flying,
+            worker,
+            node,
+        );
         put_share(&mut self.shares, worker, node, Share::Table(table));
-        put_back(&mut self.queues, node, Waiting { batch: out, from: 0 });
+        put_back(
+            &mut self.queues,
+            node,
+            Waiting {
+                batch: out,
+                from: 0,
+            },
+        );
     }
 
     /// Delivers the batch that a Tail gave.
-    fn deliver_tail(&mut self, worker: u32, node: u32, part: Part<O, O::Shared, O::Local>, out: Batch)
+    fn deliver_tail(
+        &mut self,
+        worker: u32,
+        node: u32,
+        part: Part<O, O::Shared, O::Local>,
+        out: Batch,
+    )
         requires worker { IsWorker (plan_of self.old.given) worker }
         requires due { IsDue O.meaning O.local_is O.shared_is self.old worker node (FruitOf.Tail part out) }
         requires kept { is_dropped self.old node ≡ false }
         ensures { self.new ≡ with_entry self.old (EntryOf.Deliver worker) 0 }
     {
         let _room = self.room;
-        depart(&mut self.seats, &mut self.stages, &mut self.history, &mut self.flying, worker, node);
+        depart(
+            &mut self.seats,
+            &mut self.stages,
+            &mut self.history,
+            &mut self.flying,
+            worker,
+            node,
+        );
         put_share(&mut self.shares, worker, node, Share::Part(part));
-        put_back(&mut self.queues, node, Waiting { batch: out, from: 0 });
+        put_back(
+            &mut self.queues,
+            node,
+            Waiting {
+                batch: out,
+                from: 0,
+            },
+        );
     }
 
     /// Delivers what a Seal made of all that was gathered.
-    fn deliver_seal(&mut self, worker: u32, node: u32, row: Vec<Option<Share<O, O::Shared, O::Local>>>, count: u64)
+    fn deliver_seal(
+        &mut self,
+        worker: u32,
+        node: u32,
+        row: Vec<Option<Share<O, O::Shared, O::Local>>>,
+        count: u64,
+    )
         requires worker { IsWorker (plan_of self.old.given) worker }
         requires due { IsDue O.meaning O.local_is O.shared_is self.old worker node (FruitOf.Seal row count) }
         requires kept { is_dropped self.old node ≡ false }
@@ -108,26 +164,53 @@ impl<O: Operator> PlanState<O> {
     {
         let _room = self.room;
         let phase = phase_after_seal(shape_at(&self.infos, node));
-        depart(&mut self.seats, &mut self.stages, &mut self.history, &mut self.flying, worker, node);
+        depart(
+            &mut self.seats,
+            &mut self.stages,
+            &mut self.history,
+            &mut self.flying,
+            worker,
+            node,
+        );
         put_row(&mut self.shares, node, row);
         begin_phase(&mut self.stages, node, phase, count);
     }
 
     /// Delivers what a Close made of all that was streamed.
-    fn deliver_close(&mut self, worker: u32, node: u32, row: Vec<Option<Share<O, O::Shared, O::Local>>>, count: u64)
+    fn deliver_close(
+        &mut self,
+        worker: u32,
+        node: u32,
+        row: Vec<Option<Share<O, O::Shared, O::Local>>>,
+        count: u64,
+    )
         requires worker { IsWorker (plan_of self.old.given) worker }
         requires due { IsDue O.meaning O.local_is O.shared_is self.old worker node (FruitOf.Close row count) }
         requires kept { is_dropped self.old node ≡ false }
         ensures { self.new ≡ with_entry self.old (EntryOf.Deliver worker) 0 }
     {
         let _room = self.room;
-        depart(&mut self.seats, &mut self.stages, &mut self.history, &mut self.flying, worker, node);
+        depart(
+            &mut self.seats,
+            &mut self.stages,
+            &mut self.history,
+            &mut self.flying,
+            worker,
+            node,
+        );
         put_row(&mut self.shares, node, row);
         begin_phase(&mut self.stages, node, Phase::Tailing, count);
     }
 
     /// Delivers the batch that a Stream gave, and what is left of the one that it took.
-    fn deliver_stream(&mut self, worker: u32, node: u32, part: Part<O, O::Shared, O::Local>, out: Batch, rest: Option<Waiting>)
+    fn deliver_stream(
+        &mut self,
+        worker: u32,
+        node: u32,
+        part: Part<O, O::Shared, O::Local>,
+        out: Batch,
+        rest: Option<Waiting>,
+    )
         requires worker { IsWorker (plan_of self.old.given) worker }
         requires due { IsDue O.meaning O.local_is O.shared_is self.old worker node (FruitOf.Stream part out rest) }
         requires kept { is_dropped self.old node ≡ false }
@@ -135,9 +218,23 @@ impl<O: Operator> PlanState<O> {
     {
         let _room = self.room;
         let edge = first_input(&self.infos, node);
-        depart(&mut self.seats, &mut self.stages, &mut self.history, &mut self.flying, worker, node);
+        depart(
+            &mut self.seats,
+            &mut self.stages,
+            &mut self.history,
+            &mut self.flying,
+            worker,
+            node,
+        );
         put_share(&mut self.shares, worker, node, Share::Part(part));
         put_rest(&mut self.queues, edge, rest);
-        put_back(&mut self.queues, node, Waiting { batch: out, from: 0 });
+        put_back(
+            &mut self.queues,
+            node,
+            Waiting {
+                batch: out,
+                from: 0,
+            },
+        );
     }
 }

@@ -22,7 +22,8 @@ pub fn has_ended(phase: Phase) -> bool
 {
     match phase {
         Phase::Done => true,
-        Phase::Emitting | Phase::Folding | Phase::Streaming | Phase::Tailing | Phase::Sealed => false,
+        Phase::Emitting | Phase::Folding | Phase::Streaming | Phase::Tailing | Phase::Sealed =>
+            false,
     }
 }
 
@@ -49,14 +50,17 @@ pub fn depart(
 }
 
 /// Puts a worker's share of a node back.
-pub fn put_share<O: Drop, S: Drop, L: Drop>(shares: &mut Vec<Vec<Option<Share<O, S, L>>>>, worker: u32, node: u32, share: Share<O, S, L>)
+pub fn put_share<O: Drop, S: Drop, L: Drop>(
+    shares: &mut Vec<Vec<Option<Share<O, S, L>>>>,
+    worker: u32,
+    node: u32,
+    share: Share<O, S, L>,
+)
     requires { HasSeat (map (λ row. row.items) shares.old.items) worker node }
-    ensures {
-        (d : List (Option (Share O S L)))
+    ensures { (d : List (Option (Share O S L)))
         → map (λ row. row.items) shares.new.items
-            ≡ slice_set (map (λ row. row.items) shares.old.items) (node - 1)
-                (slice_set (slice_index_or (map (λ row. row.items) shares.old.items) (node - 1) d) (worker - 1) (Some share))
-    }
+        ≡ slice_set (map (λ row. row.items) shares.old.items) (node - 1)
+        (slice_set (slice_index_or (map (λ row. row.items) shares.old.items) (node - 1) d) (worker - 1) (Some share)) }
 {
     let row = &mut shares[(node - 1) as usize];
     row[(worker - 1) as usize] = Some(share);
@@ -65,11 +69,9 @@ pub fn put_share<O: Drop, S: Drop, L: Drop>(shares: &mut Vec<Vec<Option<Share<O,
 /// Puts a batch behind all that wait on an edge.
 pub fn put_back(queues: &mut Vec<Queue>, edge: u32, waiting: Waiting)
     requires { HasRoom queues.old.items edge }
-    ensures {
-        (d : Queue) → (q : Queue)
+    ensures { (d : Queue) → (q : Queue)
         × (queues.new.items ≡ slice_set queues.old.items (edge - 1) q)
-        × IsGrown (slice_index_or queues.old.items (edge - 1) d) ((slice_index_or queues.old.items (edge - 1) d).waiting.items ++ waiting ∷ []) q
-    }
+        × IsGrown (slice_index_or queues.old.items (edge - 1) d) ((slice_index_or queues.old.items (edge - 1) d).waiting.items ++ waiting ∷ []) q }
 {
     let queue = &mut queues[(edge - 1) as usize];
     queue.waiting.push_back_reserved(waiting);
@@ -79,11 +81,9 @@ pub fn put_back(queues: &mut Vec<Queue>, edge: u32, waiting: Waiting)
 /// Puts a batch before all that wait on an edge.
 pub fn put_front(queues: &mut Vec<Queue>, edge: u32, waiting: Waiting)
     requires { HasRoom queues.old.items edge }
-    ensures {
-        (d : Queue) → (q : Queue)
+    ensures { (d : Queue) → (q : Queue)
         × (queues.new.items ≡ slice_set queues.old.items (edge - 1) q)
-        × IsGrown (slice_index_or queues.old.items (edge - 1) d) (waiting ∷ (slice_index_or queues.old.items (edge - 1) d).waiting.items) q
-    }
+        × IsGrown (slice_index_or queues.old.items (edge - 1) d) (waiting ∷ (slice_index_or queues.old.items (edge - 1) d).waiting.items) q }
 {
     let queue = &mut queues[(edge - 1) as usize];
     queue.waiting.push_front_reserved(waiting);
@@ -91,7 +91,11 @@ pub fn put_front(queues: &mut Vec<Queue>, edge: u32, waiting: Waiting)
 }
 
 /// Puts the shares of all workers at a node in their place.
-pub fn put_row<O: Drop, S: Drop, L: Drop>(shares: &mut Vec<Vec<Option<Share<O, S, L>>>>, node: u32, row: Vec<Option<Share<O, S, L>>>)
+pub fn put_row<O: Drop, S: Drop, L: Drop>(
+    shares: &mut Vec<Vec<Option<Share<O, S, L>>>>,
+    node: u32,
+    row: Vec<Option<Share<O, S, L>>>,
+)
     requires { HasPlace (map (λ row. row.items) shares.old.items) node }
     ensures { map (λ row. row.items) shares.new.items ≡ slice_set (map (λ row. row.items) shares.old.items) (node - 1) row.items }
 {
@@ -128,11 +132,9 @@ pub fn first_input(infos: &[NodeInfo], node: u32) -> u32
 pub fn put_rest(queues: &mut Vec<Queue>, edge: u32, rest: Option<Waiting>)
     requires { (w : Waiting) → rest ≡ Some w → HasRoom queues.old.items edge }
     ensures none { rest ≡ None → queues.new.items ≡ queues.old.items }
-    ensures some {
-        (w : Waiting) (d : Queue) → rest ≡ Some w → (q : Queue)
+    ensures some { (w : Waiting) (d : Queue) → rest ≡ Some w → (q : Queue)
         × (queues.new.items ≡ slice_set queues.old.items (edge - 1) q)
-        × IsGrown (slice_index_or queues.old.items (edge - 1) d) (w ∷ (slice_index_or queues.old.items (edge - 1) d).waiting.items) q
-    }
+        × IsGrown (slice_index_or queues.old.items (edge - 1) d) (w ∷ (slice_index_or queues.old.items (edge - 1) d).waiting.items) q }
 {
     if let Some(waiting) = rest {
         put_front(queues, edge, waiting);
