@@ -1,3 +1,4 @@
 pub mod Rows
 pub mod Sites
 pub mod Work
+pub mod Examples

@@ -9,3 +9,6 @@ mod work;
 
 pub use task::{Done, Task, run_task};
 pub use work::{Fruit, Part, Share, Waiting, Work};
+
+#[cfg(test)]
+mod tests;
