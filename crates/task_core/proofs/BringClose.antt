@@ -1,18 +1,18 @@
 -- A delivery of a Close.
-use Rattle.std.proofs.Common.{◌≡◌, ◌≢◌, ℕ, suc, ◌+◌, ◌-◌, ◌<◌, ◌≤◌, Bool, true, false, nat_eq, List, [], ◌∷◌, ◌++◌, length, Option, Some, None, refl, sym, ap, subst, ◌∙◌, arith, slice_index_or, slice_set, Vec}
+use Rattle.std.proofs.Common.{◌≡◌, ℕ, suc, ◌-◌, ◌<◌, Bool, nat_eq, List, [], ◌∷◌, ◌++◌, length, Option, Some, None, refl, sym, ap, subst, ◌∙◌, arith, slice_index_or, slice_set, Vec}
 use Rattle.std.specs.declared.alloc.Global.{Global}
 use Rattle.scalar_value.specs.declared.value.Value.{Value}
 use Rattle.scalar_value.specs.declared.value.ColType.{ColType}
 use Rattle.plan_machine.specs.declared.entry.Phase.{Phase}
-use Rattle.plan_machine.specs.declared.entry.Phase.TheVariants.{Emitting, Tailing}
+use Rattle.plan_machine.specs.declared.entry.Phase.TheVariants.{Tailing}
 use Rattle.plan_machine.specs.declared.entry.Job.{Job}
 use Rattle.plan_machine.specs.declared.entry.Job.TheVariants.{Close}
 use Rattle.plan_machine.specs.declared.entry.Entry.{Entry}
 use Rattle.plan_machine.specs.declared.entry.Entry.TheVariants.{Deliver}
 use Rattle.plan_machine.specs.Lists.{upd}
 use Rattle.plan_machine.specs.Batch.{Batch, parts, rows_of}
-use Rattle.plan_machine.specs.Plan.{Plan as MachinePlan, IsNode, IsWorker}
-use Rattle.plan_machine.specs.State.{State, Task}
+use Rattle.plan_machine.specs.Plan.{IsNode, IsWorker}
+use Rattle.plan_machine.specs.State.{Task}
 use Rattle.plan_machine.specs.InFlight.{TaskFits}
 use Rattle.plan_machine.specs.After.{after, landed}
 use Rattle.plan_machine.specs.History.{state_after}
@@ -26,14 +26,14 @@ use Rattle.task_core.specs.declared.queue.Queue.{Queue}
 use Rattle.task_core.specs.declared.stage.Stage.{Stage}
 use Rattle.task_core.specs.declared.stage.NodeInfo.{NodeInfo}
 use Rattle.task_core.specs.declared.stage.Flight.{Flight}
-use Rattle.task_core.specs.Told.{Given, Told, plan_of, site_of}
+use Rattle.task_core.specs.Told.{Given, plan_of, site_of}
 use Rattle.task_core.specs.Stored.{StageIs, Stands}
 use Rattle.task_core.specs.Stages.{less_busy}
 use Rattle.task_core.specs.Delivering.{in_phase}
 use Rattle.task_core.proofs.Held.{some_of}
 use Rattle.task_core.proofs.Delivering.{RowAt, stage_landed, departing}
 use Rattle.task_core.proofs.Landed.{Lands, lands, after_landed}
-use Rattle.task_core.proofs.Bringing.{Brings, BringsAt, placed}
+use Rattle.task_core.proofs.Bringing.{Brings, placed}
 use Rattle.task_core.proofs.BringSeal.{ends_in}
 use Rattle.task_core.proofs.Whole.{written_twice, row_new, whole_at}
 

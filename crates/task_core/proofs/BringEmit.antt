@@ -1,5 +1,5 @@
 -- A delivery of an Emit.
-use Rattle.std.proofs.Common.{◌≡◌, ℕ, suc, ◌+◌, ◌-◌, ◌≤◌, Bool, nat_eq, List, [], ◌∷◌, ◌++◌, length, Option, Some, None, refl, sym, ap, subst, ◌∙◌, arith, slice_index_or, slice_set}
+use Rattle.std.proofs.Common.{◌≡◌, ℕ, suc, ◌-◌, Bool, nat_eq, List, [], ◌∷◌, ◌++◌, length, Option, Some, None, refl, sym, ap, subst, ◌∙◌, arith, slice_index_or, slice_set}
 use Rattle.std.proofs.lemmas.List.{length-append}
 use Rattle.std.specs.declared.alloc.Global.{Global}
 use Rattle.std.specs.declared.sync.Arc.{Arc}
@@ -8,11 +8,9 @@ use Rattle.scalar_value.specs.declared.value.ColType.{ColType}
 use Rattle.row_table.specs.Tables.{TableValue}
 use Rattle.column_batch.specs.Batches.{BatchValue}
 use Rattle.plan_machine.specs.declared.entry.Phase.{Phase}
-use Rattle.plan_machine.specs.declared.entry.Job.{Job}
 use Rattle.plan_machine.specs.declared.entry.Job.TheVariants.{Emit}
 use Rattle.plan_machine.specs.declared.entry.Entry.{Entry}
 use Rattle.plan_machine.specs.declared.entry.Entry.TheVariants.{Deliver}
-use Rattle.plan_machine.specs.Lists.{upd}
 use Rattle.plan_machine.specs.Batch.{Batch, piece}
 use Rattle.plan_machine.specs.Plan.{IsNode, IsEdge}
 use Rattle.plan_machine.specs.State.{State, Task}
@@ -25,17 +23,16 @@ use Rattle.plan_nodes.specs.Plans.{machine_node_at}
 use Rattle.task_work.specs.declared.work.Share.{Share}
 use Rattle.task_work.specs.declared.work.Share.TheVariants as share
 use Rattle.task_work.specs.declared.work.Fruit.TheVariants as fruit
-use Rattle.task_work.specs.Work.{IsTable, IsOut}
+use Rattle.task_work.specs.Work.{IsOut}
 use Rattle.task_core.specs.declared.queue.Queue.{Queue}
 use Rattle.task_core.specs.declared.stage.Stage.{Stage}
 use Rattle.task_core.specs.declared.stage.NodeInfo.{NodeInfo}
 use Rattle.task_core.specs.declared.stage.Flight.{Flight}
-use Rattle.task_core.specs.Told.{Given, Told, plan_of, site_of}
+use Rattle.task_core.specs.Told.{Given, plan_of, site_of}
 use Rattle.task_core.specs.Stored.{PartStands, takes_all, Stands}
 use Rattle.task_core.specs.Stages.{less_busy}
 use Rattle.task_core.specs.Delivering.{IsGrown, HasRoom}
 use Rattle.task_core.proofs.Known.{known}
-use Rattle.task_core.proofs.Seated.{seated}
 use Rattle.task_core.proofs.Landed.{Lands, lands, after_landed}
 use Rattle.task_core.proofs.Bringing.{Brings, BringsAt, placed}
 use Rattle.task_core.proofs.Giving.{item_is, source_edge, room_on, give_at}

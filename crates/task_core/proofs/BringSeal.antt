@@ -1,10 +1,10 @@
 -- A delivery of a Seal.
-use Rattle.std.proofs.Common.{◌≡◌, ◌≢◌, ℕ, suc, ◌+◌, ◌-◌, ◌<◌, ◌≤◌, Bool, true, false, nat_eq, List, [], ◌∷◌, ◌++◌, length, Option, Some, None, refl, sym, ap, subst, ◌∙◌, inl, inr, arith, slice_index_or, slice_set, Vec}
+use Rattle.std.proofs.Common.{◌≡◌, ℕ, suc, ◌-◌, ◌<◌, Bool, true, false, nat_eq, List, [], ◌∷◌, ◌++◌, length, Option, Some, None, refl, sym, ap, subst, ◌∙◌, inl, arith, slice_index_or, slice_set, Vec}
 use Rattle.std.specs.declared.alloc.Global.{Global}
 use Rattle.scalar_value.specs.declared.value.Value.{Value}
 use Rattle.scalar_value.specs.declared.value.ColType.{ColType}
 use Rattle.plan_machine.specs.declared.entry.Phase.{Phase}
-use Rattle.plan_machine.specs.declared.entry.Phase.TheVariants.{Emitting, Folding, Streaming, Tailing, Sealed}
+use Rattle.plan_machine.specs.declared.entry.Phase.TheVariants.{Emitting, Folding, Tailing}
 use Rattle.plan_machine.specs.declared.entry.Job.{Job}
 use Rattle.plan_machine.specs.declared.entry.Job.TheVariants.{Seal}
 use Rattle.plan_machine.specs.declared.entry.Entry.{Entry}
@@ -13,14 +13,14 @@ use Rattle.plan_machine.specs.declared.shape.OpShape.{OpShape}
 use Rattle.plan_machine.specs.Phases.{phase_after_seal_of, part_count_of}
 use Rattle.plan_machine.specs.Lists.{upd}
 use Rattle.plan_machine.specs.Batch.{Batch, gathered, parts, rows_of}
-use Rattle.plan_machine.specs.Plan.{Plan as MachinePlan, IsNode, IsWorker}
-use Rattle.plan_machine.specs.State.{State, Task}
+use Rattle.plan_machine.specs.Plan.{IsNode, IsWorker}
+use Rattle.plan_machine.specs.State.{Task}
 use Rattle.plan_machine.specs.InFlight.{phase_of, TaskFits}
 use Rattle.plan_machine.specs.After.{after, landed}
 use Rattle.plan_machine.specs.History.{state_after}
 use Rattle.plan_machine.proofs.Weigh.{upd-here, upd-else}
 use Rattle.plan_machine.proofs.Flight.{flying}
-use Rattle.plan_nodes.specs.Operators.{OpMeaning, first_of, end_count, size_of}
+use Rattle.plan_nodes.specs.Operators.{OpMeaning, first_of, end_count}
 use Rattle.plan_nodes.specs.Plans.{machine_node_at}
 use Rattle.task_work.specs.Sites.{Site}
 use Rattle.task_work.specs.declared.work.Share.{Share}
@@ -32,15 +32,15 @@ use Rattle.task_core.specs.declared.queue.Queue.{Queue}
 use Rattle.task_core.specs.declared.stage.Stage.{Stage}
 use Rattle.task_core.specs.declared.stage.NodeInfo.{NodeInfo}
 use Rattle.task_core.specs.declared.stage.Flight.{Flight}
-use Rattle.task_core.specs.Told.{Given, Told, plan_of, site_of}
-use Rattle.task_core.specs.Stored.{Held, InfoIs, StageIs, PartStands, takes_all, Stands}
+use Rattle.task_core.specs.Told.{Given, plan_of, site_of}
+use Rattle.task_core.specs.Stored.{Held, InfoIs, StageIs, PartStands, Stands}
 use Rattle.task_core.specs.Stages.{less_busy}
 use Rattle.task_core.specs.Delivering.{in_phase}
 use Rattle.task_core.proofs.Held.{some_of}
 use Rattle.task_core.proofs.Known.{known}
 use Rattle.task_core.proofs.Delivering.{site_workers, RowAt, stage_landed, departing}
 use Rattle.task_core.proofs.Landed.{Lands, lands, after_landed}
-use Rattle.task_core.proofs.Bringing.{Brings, BringsAt, placed}
+use Rattle.task_core.proofs.Bringing.{Brings, placed}
 use Rattle.task_core.proofs.Sizes.{size_tails}
 use Rattle.task_core.proofs.Whole.{gather_nil, written_twice, row_new, whole_at}
 

@@ -1,18 +1,17 @@
 -- A delivery of a Stream.
-use Rattle.std.proofs.Common.{◌≡◌, ◌≢◌, ℕ, suc, ◌+◌, ◌-◌, ◌<◌, ◌≤◌, max, Bool, true, false, nat_eq, cond, List, [], ◌∷◌, ◌++◌, length, Option, Some, None, refl, sym, ap, subst, ◌∙◌, ◌⊎◌, inl, inr, arith, slice_index_or, slice_set}
+use Rattle.std.proofs.Common.{◌≡◌, ◌≢◌, ℕ, suc, ◌+◌, ◌-◌, ◌<◌, ◌≤◌, max, Bool, false, nat_eq, List, [], ◌∷◌, ◌++◌, length, Option, Some, None, refl, sym, ap, subst, ◌∙◌, inl, inr, arith, slice_index_or, slice_set}
 use Rattle.std.proofs.lemmas.List.{length-set, length-append, get_or-set_other}
 use Rattle.scalar_value.specs.declared.value.Value.{Value}
 use Rattle.scalar_value.specs.declared.value.ColType.{ColType}
 use Rattle.column_batch.specs.Batches.{BatchValue}
 use Rattle.plan_machine.specs.declared.entry.Phase.{Phase}
 use Rattle.plan_machine.specs.declared.entry.Phase.TheVariants.{Streaming}
-use Rattle.plan_machine.specs.declared.entry.Job.{Job}
 use Rattle.plan_machine.specs.declared.entry.Job.TheVariants.{Stream}
 use Rattle.plan_machine.specs.declared.entry.Entry.{Entry}
 use Rattle.plan_machine.specs.declared.entry.Entry.TheVariants.{Deliver}
 use Rattle.plan_machine.specs.Lists.{upd}
 use Rattle.plan_machine.specs.Batch.{Batch}
-use Rattle.plan_machine.specs.Plan.{Plan as MachinePlan, IsNode, IsEdge, IsWorker, streams_from}
+use Rattle.plan_machine.specs.Plan.{Plan as MachinePlan, IsNode, IsEdge, streams_from}
 use Rattle.plan_machine.specs.State.{State, Task, opening}
 use Rattle.plan_machine.specs.InFlight.{phase_of}
 use Rattle.plan_machine.specs.After.{after, landed, sent, back}
@@ -33,7 +32,7 @@ use Rattle.task_core.specs.declared.queue.Queue.{Queue}
 use Rattle.task_core.specs.declared.stage.Stage.{Stage}
 use Rattle.task_core.specs.declared.stage.NodeInfo.{NodeInfo}
 use Rattle.task_core.specs.declared.stage.Flight.{Flight}
-use Rattle.task_core.specs.Told.{Given, Told, plan_of, site_of}
+use Rattle.task_core.specs.Told.{Given, plan_of, site_of}
 use Rattle.task_core.specs.Stored.{Held, InfoIs, QueueIs, PartStands, takes_all, goes_on, Stands}
 use Rattle.task_core.specs.Stages.{less_busy}
 use Rattle.task_core.specs.Delivering.{IsGrown, HasRoom}
@@ -42,8 +41,8 @@ use Rattle.task_core.proofs.Delivering.{AllQueues, peaks, peak_stays}
 use Rattle.task_core.proofs.Landed.{Lands, lands, after_landed, put_at}
 use Rattle.task_core.proofs.Bringing.{Brings, BringsAt, placed}
 use Rattle.task_core.proofs.Giving.{stream_edge, room_on}
-use Rattle.task_core.proofs.Queueing.{Queues, queues_front, queues_back}
-use Rattle.task_core.proofs.Streamed.{Left, IsLeft, first_columns, cut_edge, sent_is, left_is, room_moved}
+use Rattle.task_core.proofs.Queueing.{queues_front, queues_back}
+use Rattle.task_core.proofs.Streamed.{Left, first_columns, cut_edge, sent_is, left_is, room_moved}
 
 -- the edge that a node in its Streaming phase streams
 pub stream_input : {R : Type 0} (P : MachinePlan R) → Lawful P → WellFormed P → (es : List Entry) → IsHistory P es → (state_after P es).failed ≡ false → (n : ℕ) → IsNode P n → (state_after P es).phase n ≡ Streaming → IsInput P n (streams_from P n)

@@ -1,23 +1,21 @@
 -- A delivery of a Tail.
-use Rattle.std.proofs.Common.{◌≡◌, ℕ, suc, ◌+◌, ◌-◌, ◌*◌, ◌≤◌, Bool, true, take, drop, nat_eq, List, [], ◌∷◌, ◌++◌, length, Option, Some, None, refl, sym, ap, subst, ◌∙◌, arith, slice_index_or, slice_set}
+use Rattle.std.proofs.Common.{◌≡◌, ℕ, suc, ◌-◌, ◌*◌, Bool, true, take, drop, nat_eq, List, [], ◌∷◌, ◌++◌, length, Option, Some, None, refl, sym, ap, subst, ◌∙◌, arith, slice_index_or, slice_set}
 use Rattle.std.proofs.lemmas.List.{length-append}
 use Rattle.scalar_value.specs.declared.value.Value.{Value}
 use Rattle.scalar_value.specs.declared.value.ColType.{ColType}
 use Rattle.column_batch.specs.Batches.{BatchValue}
 use Rattle.plan_machine.specs.declared.entry.Phase.{Phase}
-use Rattle.plan_machine.specs.declared.entry.Job.{Job}
 use Rattle.plan_machine.specs.declared.entry.Job.TheVariants.{Tail}
 use Rattle.plan_machine.specs.declared.entry.Entry.{Entry}
 use Rattle.plan_machine.specs.declared.entry.Entry.TheVariants.{Deliver}
-use Rattle.plan_machine.specs.Lists.{upd}
 use Rattle.plan_machine.specs.Batch.{Batch, piece, rows_of}
-use Rattle.plan_machine.specs.Plan.{IsNode, IsEdge}
+use Rattle.plan_machine.specs.Plan.{IsNode}
 use Rattle.plan_machine.specs.State.{State, Task}
 use Rattle.plan_machine.specs.InFlight.{phase_of}
 use Rattle.plan_machine.specs.After.{after, landed}
 use Rattle.plan_machine.specs.History.{state_after}
 use Rattle.plan_machine.proofs.Weigh.{upd-here}
-use Rattle.plan_nodes.specs.Operators.{OpMeaning, item, end_part, size_of}
+use Rattle.plan_nodes.specs.Operators.{OpMeaning, item, end_part}
 use Rattle.plan_nodes.specs.Plans.{machine_node_at}
 use Rattle.task_work.specs.declared.work.Share.{Share}
 use Rattle.task_work.specs.declared.work.Share.TheVariants as share
@@ -28,12 +26,11 @@ use Rattle.task_core.specs.declared.queue.Queue.{Queue}
 use Rattle.task_core.specs.declared.stage.Stage.{Stage}
 use Rattle.task_core.specs.declared.stage.NodeInfo.{NodeInfo}
 use Rattle.task_core.specs.declared.stage.Flight.{Flight}
-use Rattle.task_core.specs.Told.{Given, Told, plan_of, site_of}
+use Rattle.task_core.specs.Told.{Given, plan_of, site_of}
 use Rattle.task_core.specs.Stored.{PartStands, takes_all, Stands}
 use Rattle.task_core.specs.Stages.{less_busy}
 use Rattle.task_core.specs.Delivering.{IsGrown, HasRoom}
 use Rattle.task_core.proofs.Known.{known}
-use Rattle.task_core.proofs.Seated.{seated}
 use Rattle.task_core.proofs.Landed.{Lands, lands, after_landed}
 use Rattle.task_core.proofs.Bringing.{Brings, BringsAt, placed}
 use Rattle.task_core.proofs.Sizes.{size_tails}

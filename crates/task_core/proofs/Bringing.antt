@@ -1,12 +1,11 @@
 -- What a worker brings back of a task that lands.
-use Rattle.std.proofs.Common.{◌≡◌, ℕ, suc, ◌-◌, ◌≤◌, ◌<◌, ◌+◌, length, Option, Bool, false, ◌||◌, List, Some, refl, sym, ap, subst, ◌∙◌, arith}
+use Rattle.std.proofs.Common.{◌≡◌, ℕ, suc, ◌-◌, Option, Bool, false, List, Some, sym, ap, subst, ◌∙◌, arith}
 use Rattle.scalar_value.specs.declared.value.Value.{Value}
 use Rattle.scalar_value.specs.declared.value.ColType.{ColType}
 use Rattle.plan_machine.specs.declared.entry.Entry.{Entry}
 use Rattle.plan_machine.specs.Batch.{Batch}
 use Rattle.plan_machine.specs.Plan.{IsNode, IsWorker}
 use Rattle.plan_machine.specs.State.{Task}
-use Rattle.plan_machine.specs.After.{is_done}
 use Rattle.plan_machine.specs.History.{IsHistory, state_after}
 use Rattle.plan_nodes.specs.Operators.{OpMeaning}
 use Rattle.task_work.specs.declared.work.Fruit.{Fruit}

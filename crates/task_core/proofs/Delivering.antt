@@ -1,38 +1,34 @@
 -- What is stored after a delivery.
-use Rattle.std.proofs.Common.{◌≡◌, ◌≢◌, ℕ, zero, suc, ◌+◌, ◌-◌, ◌<◌, ◌≤◌, max, Bool, true, false, cond, ◌||◌, nat_eq, List, [], ◌∷◌, ◌++◌, length, Option, Some, None, refl, sym, ap, subst, ◌∙◌, ◌⊎◌, inl, inr, arith, slice_index_or, slice_set}
+use Rattle.std.proofs.Common.{◌≡◌, ◌≢◌, ℕ, suc, ◌+◌, ◌-◌, ◌<◌, ◌≤◌, max, Bool, true, false, cond, ◌||◌, nat_eq, List, [], ◌∷◌, ◌++◌, length, Option, Some, None, refl, sym, ap, subst, ◌∙◌, inl, inr, arith, slice_index_or, slice_set}
 use Rattle.std.proofs.lemmas.List.{length-set}
 use Rattle.std.proofs.lemmas.Bool.Decides.{eqb_tells}
 use Rattle.scalar_value.specs.declared.value.Value.{Value}
 use Rattle.scalar_value.specs.declared.value.ColType.{ColType}
 use Rattle.plan_machine.specs.declared.entry.Phase.{Phase}
 use Rattle.plan_machine.specs.declared.entry.Phase.TheVariants.{Emitting, Folding, Streaming, Tailing, Sealed, Done}
-use Rattle.plan_machine.specs.declared.entry.Job.{Job}
 use Rattle.plan_machine.specs.declared.entry.Entry.{Entry}
 use Rattle.plan_machine.specs.declared.entry.Entry.TheVariants.{Deliver}
-use Rattle.plan_machine.specs.Lists.{upd, sum_to}
+use Rattle.plan_machine.specs.Lists.{upd}
 use Rattle.plan_machine.specs.Batch.{Batch}
 use Rattle.plan_machine.specs.Plan.{Plan as MachinePlan, IsNode, IsWorker}
 use Rattle.plan_machine.specs.State.{State, Task, opening}
-use Rattle.plan_machine.specs.Enabled.{Enabled}
 use Rattle.plan_machine.specs.After.{after, delivered, landed, is_done}
 use Rattle.plan_machine.specs.History.{IsHistory, state_after, peak}
-use Rattle.plan_machine.proofs.Weigh.{upd-here, upd-else, same_or}
 use Rattle.plan_machine.proofs.Flight.{flying}
 use Rattle.plan_nodes.specs.Operators.{OpMeaning}
-use Rattle.task_work.specs.Sites.{Site}
 use Rattle.task_work.specs.declared.work.Share.{Share}
 use Rattle.task_core.specs.declared.queue.Queue.{Queue}
 use Rattle.task_core.specs.declared.stage.Stage.{Stage}
 use Rattle.task_core.specs.declared.stage.NodeInfo.{NodeInfo}
 use Rattle.task_core.specs.declared.stage.Flight.{Flight}
 use Rattle.task_core.specs.Told.{Given, plan_of, site_of}
-use Rattle.task_core.specs.Stored.{Held, StageIs, QueueIs, SeatIs, RowIs, in_flight, is_live, goes_on, Stored, Stands}
+use Rattle.task_core.specs.Stored.{Held, StageIs, QueueIs, RowIs, is_live, goes_on, Stored, Stands}
 use Rattle.task_core.specs.Stages.{less_busy}
 use Rattle.task_core.specs.Delivering.{IsDeparting}
 use Rattle.task_core.proofs.Held.{held_set, held_map, some_of}
 use Rattle.task_core.proofs.Growing.{peak_covers, with_most, standing}
-use Rattle.task_core.proofs.Seated.{Seated, seated}
-use Rattle.task_core.proofs.Landing.{Tasks, seat_left, flying_left, row_left, flight_less, flight_same, stages_landed}
+use Rattle.task_core.proofs.Seated.{seated}
+use Rattle.task_core.proofs.Landing.{Tasks, seat_left, flying_left, row_left, flight_less, stages_landed}
 
 stage_less : (P : MachinePlan (List Value)) (n : ℕ) (phase : Phase) (next : ℕ) (built : List (List Value)) (streamed : List (Batch (List Value))) (k k' : ℕ) (st : Stage)
     → k ≡ k' + 1 → StageIs P n phase next built streamed k st → StageIs P n phase next built streamed k' (less_busy st)

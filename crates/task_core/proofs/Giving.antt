@@ -1,37 +1,32 @@
 -- A delivery that puts a batch on its node's own edge, and the worker's share back.
-use Rattle.std.proofs.Common.{◌≡◌, ◌≢◌, ℕ, suc, ◌+◌, ◌-◌, ◌<◌, ◌≤◌, max, Bool, true, false, cond, ◌||◌, nat_eq, List, [], ◌∷◌, ◌++◌, length, Option, Some, None, refl, sym, ap, subst, ◌∙◌, ◌⊎◌, inl, inr, arith, slice_index_or, slice_set}
-use Rattle.std.proofs.lemmas.List.{length-append, length-set}
+use Rattle.std.proofs.Common.{◌≡◌, ◌≢◌, ℕ, suc, ◌+◌, ◌-◌, ◌<◌, ◌≤◌, Bool, true, false, nat_eq, List, [], ◌∷◌, ◌++◌, length, Option, Some, None, refl, sym, ap, subst, ◌∙◌, inl, inr, arith, slice_index_or, slice_set}
+use Rattle.std.proofs.lemmas.List.{length-set}
 use Rattle.scalar_value.specs.declared.value.Value.{Value}
 use Rattle.scalar_value.specs.declared.value.ColType.{ColType}
 use Rattle.column_batch.specs.Batches.{BatchValue}
-use Rattle.plan_machine.specs.declared.entry.Phase.{Phase}
-use Rattle.plan_machine.specs.declared.entry.Phase.TheVariants.{Emitting, Folding, Streaming, Tailing}
-use Rattle.plan_machine.specs.declared.entry.Job.{Job}
+use Rattle.plan_machine.specs.declared.entry.Phase.TheVariants.{Streaming}
 use Rattle.plan_machine.specs.declared.entry.Entry.{Entry}
 use Rattle.plan_machine.specs.declared.entry.Entry.TheVariants.{Deliver}
 use Rattle.plan_machine.specs.Lists.{upd}
 use Rattle.plan_machine.specs.Batch.{Batch}
 use Rattle.plan_machine.specs.Plan.{Plan as MachinePlan, IsNode, IsEdge, IsWorker, IsSource}
-use Rattle.plan_machine.specs.State.{State, Task, opening}
+use Rattle.plan_machine.specs.State.{Task, opening}
 use Rattle.plan_machine.specs.InFlight.{phase_of}
 use Rattle.plan_machine.specs.After.{after}
 use Rattle.plan_machine.specs.History.{IsHistory, state_after}
 use Rattle.plan_machine.specs.WellFormed.{Lawful, WellFormed}
-use Rattle.plan_machine.proofs.Weigh.{upd-here, same_or}
 use Rattle.plan_machine.proofs.Steps.{run, good-opening}
 use Rattle.plan_nodes.specs.Operators.{OpMeaning, item}
 use Rattle.task_work.specs.declared.work.Share.{Share}
-use Rattle.task_work.specs.declared.work.Waiting.{Waiting}
 use Rattle.task_core.specs.declared.queue.Queue.{Queue}
 use Rattle.task_core.specs.declared.stage.Stage.{Stage}
 use Rattle.task_core.specs.declared.stage.NodeInfo.{NodeInfo}
 use Rattle.task_core.specs.declared.stage.Flight.{Flight}
 use Rattle.task_core.specs.Told.{Given, plan_of, site_of}
-use Rattle.task_core.specs.Stored.{PartStands, IsWaiting, takes_all, goes_on, Stands}
+use Rattle.task_core.specs.Stored.{PartStands, takes_all, goes_on, Stands}
 use Rattle.task_core.specs.Stages.{less_busy}
 use Rattle.task_core.specs.Delivering.{IsGrown, HasRoom}
 use Rattle.task_core.proofs.Held.{some_of}
-use Rattle.task_core.proofs.Known.{known}
 use Rattle.task_core.proofs.Delivering.{peaks, peak_stays}
 use Rattle.task_core.proofs.Landed.{Lands, put_at}
 use Rattle.task_core.proofs.Queueing.{queues_back, room_at, fewer_wait}

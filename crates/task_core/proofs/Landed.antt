@@ -1,10 +1,8 @@
 -- What is known of a task whose delivery lands, and what is stored once its share is put back.
-use Rattle.std.proofs.Common.{◌≡◌, ◌≢◌, ℕ, zero, suc, ◌+◌, ◌-◌, ◌<◌, ◌≤◌, max, Bool, true, false, cond, ◌||◌, nat_eq, List, [], ◌∷◌, ◌++◌, length, Option, Some, None, refl, sym, ap, subst, ◌∙◌, ◌⊎◌, inl, inr, arith, slice_index_or, slice_set}
+use Rattle.std.proofs.Common.{◌≡◌, ◌≢◌, ℕ, suc, ◌-◌, ◌<◌, max, Bool, true, false, cond, ◌||◌, nat_eq, List, [], ◌∷◌, ◌++◌, length, Option, Some, None, refl, sym, ap, subst, ◌∙◌, inl, inr, arith, slice_index_or, slice_set}
 use Rattle.std.proofs.lemmas.List.{length-set}
 use Rattle.scalar_value.specs.declared.value.Value.{Value}
 use Rattle.scalar_value.specs.declared.value.ColType.{ColType}
-use Rattle.plan_machine.specs.declared.entry.Phase.{Phase}
-use Rattle.plan_machine.specs.declared.entry.Phase.TheVariants.{Emitting, Folding, Streaming, Tailing, Sealed, Done}
 use Rattle.plan_machine.specs.declared.entry.Job.{Job}
 use Rattle.plan_machine.specs.declared.entry.Job.TheVariants.{Emit, Fold, Seal, Stream, Close, Tail}
 use Rattle.plan_machine.specs.declared.entry.Entry.{Entry}
@@ -13,12 +11,12 @@ use Rattle.plan_machine.specs.Lists.{upd, weigh}
 use Rattle.plan_machine.specs.Batch.{Batch}
 use Rattle.plan_machine.specs.Plan.{Plan as MachinePlan, IsNode, IsWorker}
 use Rattle.plan_machine.specs.State.{State, Task, tasks_at}
-use Rattle.plan_machine.specs.InFlight.{phase_of, TaskFits, TaskFit}
+use Rattle.plan_machine.specs.InFlight.{phase_of, TaskFits}
 use Rattle.plan_machine.specs.After.{after, delivered, landed, is_done}
 use Rattle.plan_machine.specs.History.{IsHistory, state_after}
 use Rattle.plan_machine.specs.WellFormed.{Lawful, WellFormed}
 use Rattle.plan_machine.proofs.Kept.{fitting}
-use Rattle.plan_machine.proofs.Flight.{flying, flying-has}
+use Rattle.plan_machine.proofs.Flight.{flying-has}
 use Rattle.plan_nodes.specs.Operators.{OpMeaning}
 use Rattle.task_work.specs.declared.work.Share.{Share}
 use Rattle.task_core.specs.declared.queue.Queue.{Queue}
@@ -26,15 +24,14 @@ use Rattle.task_core.specs.declared.stage.Stage.{Stage}
 use Rattle.task_core.specs.declared.stage.NodeInfo.{NodeInfo}
 use Rattle.task_core.specs.declared.stage.Flight.{Flight}
 use Rattle.task_core.specs.Told.{Given, plan_of, site_of}
-use Rattle.task_core.specs.Known.{Known}
-use Rattle.task_core.specs.Stored.{Held, RowIs, PartStands, is_live, takes_all, AllAway, Stored, Stands}
+use Rattle.task_core.specs.Stored.{PartStands, is_live, takes_all, AllAway, Stands}
 use Rattle.task_core.specs.Stages.{less_busy}
 use Rattle.task_core.specs.Delivering.{HasSeat}
 use Rattle.task_core.proofs.Held.{some_of}
 use Rattle.task_core.proofs.Known.{known}
 use Rattle.task_core.proofs.Seated.{seated}
 use Rattle.task_core.proofs.Landing.{row_put, row_full}
-use Rattle.task_core.proofs.Delivering.{Shares, AllQueues, AllRows, RowAt, Others, peaks, site_workers, rows_landed, stored_landed, stage_landed, departing, delivered_stands}
+use Rattle.task_core.proofs.Delivering.{AllQueues, RowAt, Others, peaks, site_workers, rows_landed, stored_landed, stage_landed, departing, delivered_stands}
 
 job_goes_on : (j : Job) → is_done (phase_of j) ≡ false
 job_goes_on Emit = refl

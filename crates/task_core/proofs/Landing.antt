@@ -1,24 +1,23 @@
 -- What is stored once a worker's task in flight is gone: its seat, its node's count, and the shares of the other nodes.
-use Rattle.std.proofs.Common.{◌≡◌, ◌≢◌, ℕ, zero, suc, ◌+◌, ◌-◌, ◌<◌, ◌≤◌, Bool, true, false, nat_eq, List, [], ◌∷◌, ◌++◌, length, Option, Some, None, refl, sym, ap, subst, ◌∙◌, ◌⊎◌, inl, inr, arith, slice_index_or, slice_set}
-use Rattle.std.proofs.lemmas.List.{length-set, get_or-set_same, get_or-set_other, get_or_past}
+use Rattle.std.proofs.Common.{◌≡◌, ◌≢◌, ℕ, suc, ◌+◌, ◌<◌, ◌≤◌, Bool, true, false, List, length, Option, Some, None, sym, ap, subst, ◌∙◌, ◌⊎◌, inl, inr, arith, slice_index_or, slice_set}
+use Rattle.std.proofs.lemmas.List.{length-set, get_or-set_same, get_or-set_other}
 use Rattle.scalar_value.specs.declared.value.Value.{Value}
 use Rattle.scalar_value.specs.declared.value.ColType.{ColType}
 use Rattle.plan_machine.specs.declared.entry.Phase.{Phase}
-use Rattle.plan_machine.specs.Lists.{upd, sum_to, weigh}
+use Rattle.plan_machine.specs.Lists.{upd, sum_to}
 use Rattle.plan_machine.specs.Batch.{Batch}
 use Rattle.plan_machine.specs.Plan.{Plan, IsWorker}
 use Rattle.plan_machine.specs.State.{Task, on_node}
 use Rattle.plan_machine.proofs.Weigh.{upd-here, upd-else, same_or, weigh-one}
 use Rattle.plan_machine.proofs.Sums.{sum_changed}
-use Rattle.plan_machine.proofs.Flight.{flying, flying-less, flying-same, flying-has, on_node-else}
+use Rattle.plan_machine.proofs.Flight.{flying, flying-less, flying-same, on_node-else}
 use Rattle.plan_nodes.specs.Operators.{OpMeaning}
 use Rattle.task_work.specs.Sites.{Site}
 use Rattle.task_work.specs.declared.work.Share.{Share}
 use Rattle.task_core.specs.declared.stage.Stage.{Stage}
 use Rattle.task_core.specs.declared.stage.Flight.{Flight}
-use Rattle.task_core.specs.Told.{Given, plan_of, site_of}
 use Rattle.task_core.specs.Stored.{Held, StageIs, SeatIs, in_flight, takes_all, AllAway, Away, PartStands, SlotStands, SlotIs, RowIs, is_live}
-use Rattle.task_core.proofs.Held.{held_set, held_map}
+use Rattle.task_core.proofs.Held.{held_set}
 
 abbrev pub Tasks : Type 0
 Tasks = ℕ → Option (Task (List Value))

@@ -1,20 +1,18 @@
 -- Batches that are put on an edge, and the room for them.
-use Rattle.std.proofs.Common.{◌≡◌, ◌≢◌, ℕ, zero, suc, ◌+◌, ◌-◌, ◌^◌, ◌<◌, ◌≤◌, max, Bool, List, [], ◌∷◌, ◌++◌, length, map, Some, None, refl, sym, ap, subst, ◌∙◌, ◌⊎◌, inl, inr, arith, slice_index_or, slice_set}
-use Rattle.std.proofs.lemmas.List.{length-append, length-map, map-append, get_or_append_left, get_or_push, length-set, get_or-set_other}
+use Rattle.std.proofs.Common.{◌≡◌, ℕ, zero, suc, ◌+◌, ◌-◌, ◌^◌, ◌<◌, ◌≤◌, max, Bool, List, [], ◌∷◌, ◌++◌, length, map, sym, ap, subst, ◌∙◌, ◌⊎◌, inl, inr, arith, slice_index_or, slice_set}
+use Rattle.std.proofs.lemmas.List.{length-append, length-map, map-append, get_or_append_left, get_or_push}
 use Rattle.std.proofs.lemmas.Bool.{cases_lt}
 use Rattle.std.specs.VecDeque.{deque_len, deque_capacity}
 use Rattle.scalar_value.specs.declared.value.Value.{Value}
 use Rattle.scalar_value.specs.declared.value.ColType.{ColType}
-use Rattle.backpressure.specs.Edges.{EdgeValue, with_one_more}
+use Rattle.backpressure.specs.Edges.{EdgeValue}
 use Rattle.plan_machine.specs.declared.entry.Entry.{Entry}
-use Rattle.plan_machine.specs.declared.entry.Entry.TheVariants.{Deliver}
 use Rattle.plan_machine.specs.Lists.{upd}
 use Rattle.plan_machine.specs.Batch.{Batch}
-use Rattle.plan_machine.specs.Plan.{Plan as MachinePlan, IsEdge, IsWorker}
-use Rattle.plan_machine.specs.State.{State, Task, opening}
+use Rattle.plan_machine.specs.Plan.{Plan as MachinePlan, IsEdge}
+use Rattle.plan_machine.specs.State.{State, opening}
 use Rattle.plan_machine.specs.Enabled.{Enabled}
 use Rattle.plan_machine.specs.After.{after}
-use Rattle.plan_machine.specs.Bound.{load}
 use Rattle.plan_machine.specs.History.{IsHistory, state_after}
 use Rattle.plan_machine.proofs.Weigh.{upd-here, upd-else}
 use Rattle.plan_machine.proofs.DriverHistory.{grows}

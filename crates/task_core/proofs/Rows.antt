@@ -1,5 +1,5 @@
 -- A Vec of Vecs as a list of lists.
-use Rattle.std.proofs.Common.{◌≡◌, ℕ, zero, suc, ◌<◌, List, [], ◌∷◌, length, map, Vec, refl, sym, ap, ◌∙◌, arith, slice_index_or, slice_set}
+use Rattle.std.proofs.Common.{◌≡◌, ℕ, zero, suc, ◌<◌, List, [], ◌∷◌, length, map, Vec, ap, ◌∙◌, arith, slice_index_or, slice_set}
 use Rattle.std.proofs.lemmas.List.{map-set}
 
 pub row_read : {A Z : Type 0} (xs : List (Vec A Z)) (p : ℕ) (r : Vec A Z) (d : List A) → p < length xs → r ≡ slice_index_or xs p r → r.items ≡ slice_index_or (map (λ (v : Vec A Z). v.items) xs) p d

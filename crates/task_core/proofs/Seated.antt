@@ -1,9 +1,9 @@
 -- Tasks in flight stand at nodes of the plan and are those of its workers, also after a Fail, and none is at a sink that
 -- is Done.
-use Rattle.std.proofs.Common.{◌≡◌, ◌≢◌, ℕ, zero, suc, ◌+◌, ◌<◌, ◌≤◌, Bool, true, false, cond, ◌&&◌, ◌||◌, ltb, eqb, List, [], ◌∷◌, Option, Some, None, refl, sym, ap, subst, ◌∙◌, ◌⊎◌, inl, inr, arith}
+use Rattle.std.proofs.Common.{◌≡◌, ℕ, zero, suc, Bool, true, false, cond, ◌&&◌, ◌||◌, ltb, eqb, List, [], ◌∷◌, Option, Some, None, refl, sym, ap, subst, ◌∙◌, ◌⊎◌, inl, inr, arith}
 use Rattle.std.proofs.lemmas.Bool.{le-ltb}
 use Rattle.plan_machine.specs.declared.entry.Phase.{Phase}
-use Rattle.plan_machine.specs.declared.entry.Phase.TheVariants.{Emitting, Folding, Streaming, Tailing, Sealed, Done}
+use Rattle.plan_machine.specs.declared.entry.Phase.TheVariants.{Tailing, Done}
 use Rattle.plan_machine.specs.declared.entry.Job.{Job}
 use Rattle.plan_machine.specs.declared.entry.Job.TheVariants.{Emit, Fold, Seal, Stream, Close, Tail}
 use Rattle.plan_machine.specs.declared.entry.Entry.{Entry}
@@ -12,9 +12,9 @@ use Rattle.plan_machine.specs.Phases.{phase_after_seal_of}
 use Rattle.plan_machine.specs.Lists.{upd, at_or, gather}
 use Rattle.plan_machine.specs.Batch.{blank}
 use Rattle.plan_machine.specs.Plan.{Plan, IsNode, IsWorker, folds_from, streams_from}
-use Rattle.plan_machine.specs.State.{State, Task, IsIdle, opening}
+use Rattle.plan_machine.specs.State.{State, Task, opening}
 use Rattle.plan_machine.specs.Enabled.{Enabled, Ready, CanDo}
-use Rattle.plan_machine.specs.After.{after, claimed, landed, delivered, stopped, task_of, is_done, leads, below}
+use Rattle.plan_machine.specs.After.{after, claimed, landed, delivered, stopped, task_of, is_done, leads}
 use Rattle.plan_machine.specs.History.{replay, IsLegal, IsHistory, state_after}
 use Rattle.plan_machine.proofs.Weigh.{upd-here, upd-else, same_or}
 use Rattle.plan_machine.proofs.BoundLoad.{landed_tasks}

@@ -1,7 +1,6 @@
 -- The rows of an operator's batch are those of the run's.
-use Rattle.std.proofs.Common.{◌≡◌, ℕ, Bool, true, List, refl}
+use Rattle.std.proofs.Common.{◌≡◌, ℕ, true, List, refl}
 use Rattle.scalar_value.specs.declared.value.ColType.{ColType}
-use Rattle.row_table.specs.declared.join.JoinKind.{JoinKind}
 use Rattle.plan_nodes.specs.declared.node.NodeKind.{NodeKind}
 use Rattle.plan_nodes.specs.declared.node.NodeKind.TheVariants.{Source, Filter, Project, HashJoin, Sink}
 use Rattle.plan_nodes.specs.Operators.{size_of}

@@ -1,19 +1,16 @@
 -- What a Stream gives and what it leaves, in the machine's words.
-use Rattle.std.proofs.Common.{◌≡◌, ◌≢◌, ℕ, suc, ◌+◌, ◌-◌, ◌^◌, ◌<◌, ◌≤◌, max, Bool, true, false, cond, ◌&&◌, nat_lt, nat_eq, eq-eqb, List, [], ◌∷◌, ◌++◌, length, map, take, drop, Option, Some, None, refl, sym, ap, subst, ◌∙◌, ◌⊎◌, inl, inr, arith, slice_index_or, slice_set}
+use Rattle.std.proofs.Common.{◌≡◌, ℕ, ◌+◌, ◌-◌, ◌^◌, ◌<◌, Bool, true, false, cond, ◌&&◌, nat_lt, nat_eq, eq-eqb, List, [], ◌∷◌, length, map, take, Option, Some, None, refl, sym, ap, subst, ◌∙◌, ◌⊎◌, inl, inr, slice_index_or}
 use Rattle.plan_machine.proofs.Pass.{true_or_false}
-use Rattle.std.proofs.lemmas.List.{length-set, get_or-set_other}
 use Rattle.std.specs.VecDeque.{deque_len, deque_capacity}
 use Rattle.scalar_value.specs.declared.value.Value.{Value}
 use Rattle.scalar_value.specs.declared.value.ColType.{ColType}
 use Rattle.column_batch.specs.Batches.{BatchValue, kinds_of}
-use Rattle.plan_machine.specs.Lists.{upd}
-use Rattle.plan_machine.specs.Batch.{Batch, marked}
-use Rattle.plan_machine.specs.Plan.{Plan as MachinePlan, streams_from}
+use Rattle.plan_machine.specs.Batch.{Batch}
+use Rattle.plan_machine.specs.Plan.{streams_from}
 use Rattle.plan_machine.specs.State.{Task}
 use Rattle.plan_machine.specs.After.{sent, back, left_of}
-use Rattle.plan_machine.proofs.Weigh.{upd-here, upd-else, same_or}
 use Rattle.plan_nodes.specs.declared.node.Node.{Node}
-use Rattle.plan_nodes.specs.Operators.{OpMeaning, item, first_of, left_rows, sent_rows, next_from, size_of}
+use Rattle.plan_nodes.specs.Operators.{OpMeaning, item, first_of, sent_rows, next_from, size_of}
 use Rattle.plan_nodes.specs.Plans.{machine_node_at, node_at, input_at}
 use Rattle.task_work.specs.Sites.{Site}
 use Rattle.task_work.specs.declared.work.Waiting.{Waiting}

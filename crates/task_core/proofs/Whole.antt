@@ -1,6 +1,6 @@
 -- A delivery that brings the shares of all workers, and begins a phase.
-use Rattle.std.proofs.Common.{◌≡◌, ◌≢◌, ℕ, zero, suc, ◌+◌, ◌-◌, ◌<◌, ◌≤◌, max, Bool, true, false, nat_eq, List, [], ◌∷◌, ◌++◌, length, Option, Some, None, refl, sym, ap, subst, ◌∙◌, ◌⊎◌, inl, inr, arith, slice_index_or, slice_set}
-use Rattle.std.proofs.lemmas.List.{length-append, length-set, set-set, get_or-set_same}
+use Rattle.std.proofs.Common.{◌≡◌, ℕ, zero, suc, ◌-◌, ◌<◌, ◌≤◌, Bool, List, [], ◌∷◌, ◌++◌, length, Option, Some, None, refl, sym, ap, subst, ◌∙◌, inl, arith, slice_index_or, slice_set}
+use Rattle.std.proofs.lemmas.List.{length-set, set-set, get_or-set_same}
 use Rattle.scalar_value.specs.declared.value.Value.{Value}
 use Rattle.scalar_value.specs.declared.value.ColType.{ColType}
 use Rattle.plan_machine.specs.declared.entry.Phase.{Phase}
@@ -8,8 +8,8 @@ use Rattle.plan_machine.specs.declared.entry.Entry.{Entry}
 use Rattle.plan_machine.specs.declared.entry.Entry.TheVariants.{Deliver}
 use Rattle.plan_machine.specs.Lists.{upd, gather, weigh}
 use Rattle.plan_machine.specs.Batch.{Batch}
-use Rattle.plan_machine.specs.Plan.{Plan as MachinePlan, IsNode, IsWorker}
-use Rattle.plan_machine.specs.State.{State, Task}
+use Rattle.plan_machine.specs.Plan.{IsWorker}
+use Rattle.plan_machine.specs.State.{Task}
 use Rattle.plan_machine.specs.After.{after}
 use Rattle.plan_machine.specs.History.{state_after}
 use Rattle.plan_machine.proofs.Weigh.{gather-none}
@@ -24,10 +24,8 @@ use Rattle.task_core.specs.declared.queue.Queue.{Queue}
 use Rattle.task_core.specs.declared.stage.Stage.{Stage}
 use Rattle.task_core.specs.declared.stage.NodeInfo.{NodeInfo}
 use Rattle.task_core.specs.declared.stage.Flight.{Flight}
-use Rattle.task_core.specs.Told.{Given, plan_of, site_of}
-use Rattle.task_core.specs.Stored.{Held, StageIs, RowIs, PartStands, SlotStands, Stored, Stands}
-use Rattle.task_core.specs.Stages.{less_busy}
-use Rattle.task_core.specs.Delivering.{in_phase}
+use Rattle.task_core.specs.Told.{Given, plan_of}
+use Rattle.task_core.specs.Stored.{StageIs, RowIs, PartStands, SlotStands, Stands}
 use Rattle.task_core.proofs.Growing.{with_most}
 use Rattle.task_core.proofs.Landing.{Tasks}
 use Rattle.task_core.proofs.Delivering.{RowAt, Others, peaks, peak_stays, rows_landed, stored_landed, departing, delivered_stands}

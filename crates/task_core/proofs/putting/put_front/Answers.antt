@@ -1,9 +1,8 @@
-use Rattle.std.proofs.Common.{rules, ◌≡◌, ◌-◌, ◌<◌, length, arith, ◌++◌, [], ◌∷◌, refl, ap, sym, ◌∙◌}
+use Rattle.std.proofs.Common.{◌-◌, ◌<◌, length, ◌∷◌, refl, ap, ◌∙◌}
 use Rattle.std.proofs.lemmas.List.{get_or_read}
 use Rattle.std.specs.VecDeque.{deque_capacity}
 use Rattle.backpressure.specs.Edges.{with_one_more}
 use Rattle.task_core.specs.declared.queue.Queue.{Queue}
-use Rattle.task_core.specs.Delivering.{IsGrown}
 use Rattle.task_core.proofs.putting.put_front.Goals as goal
 
 pub returns : goal.returns

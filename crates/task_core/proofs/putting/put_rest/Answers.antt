@@ -1,4 +1,4 @@
-use Rattle.std.proofs.Common.{rules, ◌≡◌, ◌-◌, List, ◌∷◌, Some, sym, subst, ◌∙◌, slice_set, slice_index_or}
+use Rattle.std.proofs.Common.{◌≡◌, ◌-◌, ◌∷◌, Some, sym, subst, ◌∙◌, slice_set, slice_index_or}
 use Rattle.task_work.specs.declared.work.Waiting.{Waiting}
 use Rattle.task_core.specs.declared.queue.Queue.{Queue}
 use Rattle.task_core.specs.Delivering.{IsGrown}

@@ -1,4 +1,4 @@
-use Rattle.std.proofs.Common.{rules, ◌-◌}
+use Rattle.std.proofs.Common.{◌-◌}
 use Rattle.task_core.proofs.Rows.{row_put_whole}
 use Rattle.task_core.proofs.putting.put_row.Goals as goal
 

@@ -1,4 +1,4 @@
-use Rattle.std.proofs.Common.{rules, ◌≡◌, ◌-◌, ◌<◌, length, arith, [], ◌∷◌, List, Some, refl, sym, subst}
+use Rattle.std.proofs.Common.{◌-◌, ◌<◌, length, [], Some, refl, sym, subst}
 use Rattle.std.proofs.lemmas.List.{length-map}
 use Rattle.task_core.proofs.Rows.{row_read, row_set}
 use Rattle.task_core.proofs.putting.put_share.Goals as goal

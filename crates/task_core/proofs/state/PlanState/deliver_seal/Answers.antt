@@ -1,9 +1,7 @@
-use Rattle.std.proofs.Common.{rules, ◌≡◌, ◌<◌, ◌-◌, ℕ, List, [], ◌∷◌, ◌++◌, length, false, sym, ap, subst, ◌∙◌, slice_index_or}
+use Rattle.std.proofs.Common.{◌≡◌, ◌<◌, ◌-◌, List, length, sym, ap, subst, ◌∙◌, slice_index_or}
 use Rattle.std.proofs.lemmas.List.{length-set}
-use Rattle.plan_machine.specs.Plan.{IsWorker}
 use Rattle.task_work.specs.declared.work.Fruit.TheVariants as fruit
-use Rattle.task_core.specs.Told.{given_by, plan_of, state_of}
-use Rattle.task_core.specs.Calls.{IsDue}
+use Rattle.task_core.specs.Told.{given_by}
 use Rattle.task_core.specs.declared.stage.Stage.{Stage}
 use Rattle.task_core.specs.declared.stage.NodeInfo.{NodeInfo}
 use Rattle.task_core.specs.Delivering.{HasPlace}

@@ -1,15 +1,13 @@
-use Rattle.std.proofs.Common.{rules, ◌≡◌, ℕ, List, [], ◌∷◌, ◌++◌, false, ◌-◌, slice_index_or, sym, ap, subst}
-use Rattle.plan_machine.specs.Plan.{IsWorker}
+use Rattle.std.proofs.Common.{◌≡◌, List, ◌-◌, slice_index_or, sym, ap, subst}
 use Rattle.task_work.specs.declared.work.Fruit.TheVariants as fruit
-use Rattle.task_core.specs.Told.{given_by, plan_of, state_of}
-use Rattle.task_core.specs.Calls.{IsDue}
+use Rattle.task_core.specs.Told.{given_by}
 use Rattle.task_core.specs.Stored.{takes_all}
 use Rattle.task_core.specs.declared.stage.NodeInfo.{NodeInfo}
 use Rattle.task_core.specs.Delivering.{HasPlace}
 use Rattle.task_core.proofs.Bringing.{Brings, places}
 use Rattle.task_core.proofs.Delivering.{departing}
 use Rattle.task_core.proofs.Landed.{has_seat}
-use Rattle.task_core.proofs.BringStream.{RestPut, stream_delivered, stream_room_rest, stream_room_out}
+use Rattle.task_core.proofs.BringStream.{stream_delivered, stream_room_rest, stream_room_out}
 use Rattle.task_core.proofs.state.PlanState.deliver_stream.Goals as goal
 
 pub first_input-edge-requires : goal.first_input-edge-requires

@@ -1,5 +1,4 @@
-use Rattle.std.proofs.Common.{rules, ◌≡◌, ◌≤◌, ◌<◌, ◌-◌, ◌||◌, Bool, ℕ, length, refl, sym, ap, subst, ◌∙◌, arith}
-use Rattle.std.proofs.lemmas.List.{get_or_read}
+use Rattle.std.proofs.Common.{◌≡◌, ◌<◌, ◌-◌, ◌||◌, Bool, length, sym, ap, subst, ◌∙◌, arith}
 use Rattle.plan_machine.specs.After.{is_done}
 use Rattle.task_core.specs.Told.{given_by, state_of}
 use Rattle.task_core.specs.declared.stage.Stage.{Stage}
