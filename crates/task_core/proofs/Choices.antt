@@ -1,17 +1,17 @@
 -- What is stored of a node says what can be done first there, and what a worker can claim first.
-use Rattle.std.proofs.Common.{◌≡◌, ◌≢◌, ℕ, suc, ◌+◌, ◌-◌, ◌<◌, ◌≤◌, Bool, true, false, cond, List, [], length, ◌⊎◌, ◌↔◌, IsTrue, IfSome, inl, inr, Option, Some, None, refl, sym, ap, subst, ◌∙◌, arith, slice_index_or}
+use Rattle.std.proofs.Common.{◌≡◌, ◌≢◌, ℕ, ◌+◌, ◌-◌, ◌<◌, ◌≤◌, Bool, false, cond, List, length, ◌⊎◌, ◌↔◌, IsTrue, IfSome, inl, inr, Option, Some, None, refl, sym, ap, subst, ◌∙◌, arith, slice_index_or}
 use Rattle.scalar_value.specs.declared.value.Value.{Value}
 use Rattle.scalar_value.specs.declared.value.ColType.{ColType}
 use Rattle.plan_machine.specs.declared.entry.Entry.{Entry}
 use Rattle.plan_machine.specs.declared.entry.Phase.{Phase}
 use Rattle.plan_machine.specs.declared.entry.Phase.TheVariants.{Emitting, Folding, Streaming, Tailing, Sealed, Done}
 use Rattle.plan_machine.specs.declared.entry.Job.{Job}
-use Rattle.plan_machine.specs.Batch.{Batch, parts}
-use Rattle.plan_machine.specs.Plan.{Plan as MachinePlan, Node as MachineNode, IsNode, IsWorker, folds_from, streams_from}
-use Rattle.plan_machine.specs.State.{State, Task, tasks_at, tail_rows, IsEndedEdge, opening}
-use Rattle.plan_machine.specs.Enabled.{CanDo, Ready, CanStop, CanPause}
-use Rattle.plan_machine.specs.Driver.{place_of, IsPreferred, IsClaimChoice, NoClaim}
-use Rattle.plan_machine.specs.History.{state_after, peak}
+use Rattle.plan_machine.specs.Batch.{Batch}
+use Rattle.plan_machine.specs.Plan.{Plan as MachinePlan, IsNode, IsWorker, folds_from}
+use Rattle.plan_machine.specs.State.{State, tasks_at, IsEndedEdge, opening}
+use Rattle.plan_machine.specs.Enabled.{CanDo, CanStop, CanPause}
+use Rattle.plan_machine.specs.Driver.{IsPreferred, IsClaimChoice}
+use Rattle.plan_machine.specs.History.{state_after}
 use Rattle.plan_machine.proofs.Weigh.{same_or}
 use Rattle.plan_machine.proofs.Turn.{folds_input, streams_input, Started}
 use Rattle.plan_machine.proofs.Steps.{run, good-opening}
@@ -25,11 +25,11 @@ use Rattle.task_core.specs.declared.queue.Queue.{Queue}
 use Rattle.task_core.specs.declared.stage.Stage.{Stage}
 use Rattle.task_core.specs.declared.stage.NodeInfo.{NodeInfo}
 use Rattle.task_core.specs.declared.stage.Flight.{Flight}
-use Rattle.task_core.specs.Told.{Given, Told, plan_of, state_of, site_of}
-use Rattle.task_core.specs.Stored.{Held, Stored, Stands, StageIs, InfoIs}
-use Rattle.task_core.specs.Choosing.{job_by, input_by, number_by, NoJob, IsFirstJob, IsFirstWork, NoWork}
+use Rattle.task_core.specs.Told.{Given, plan_of, site_of}
+use Rattle.task_core.specs.Stored.{Stands, StageIs, InfoIs}
+use Rattle.task_core.specs.Choosing.{job_by, input_by, number_by, NoJob, IsFirstJob, IsFirstWork}
 use Rattle.task_core.proofs.Held.{held_at}
-use Rattle.task_core.proofs.Choosing.{Offers, Sees, JobIs, job_is}
+use Rattle.task_core.proofs.Choosing.{Offers, JobIs, job_is}
 
 -- ---- no node of a plan is a fetch, so that nothing is ever stopped
 

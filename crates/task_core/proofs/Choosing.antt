@@ -1,18 +1,17 @@
 -- What a worker can do first, from what is stored of a node.
-use Rattle.std.proofs.Common.{◌≡◌, ◌≢◌, ℕ, suc, ◌+◌, ◌-◌, ◌<◌, ◌≤◌, Bool, true, false, not, cond, ◌&&◌, nat_lt, nat_eq, List, [], length, ◌⊎◌, inl, inr, Option, Some, None, refl, sym, ap, subst, ◌∙◌, arith, ltb-true, lt-ltb, eqb-true, eq-eqb}
-use Rattle.std.proofs.lemmas.Bool.{cases_eq, cases_lt}
+use Rattle.std.proofs.Common.{◌≡◌, ℕ, ◌<◌, ◌≤◌, Bool, true, false, not, cond, ◌&&◌, nat_lt, nat_eq, [], length, ◌⊎◌, inl, inr, Option, Some, None, refl, sym, ap, ◌∙◌, arith, ltb-true, lt-ltb, eqb-true, eq-eqb}
 use Rattle.std.proofs.lemmas.List.{nil_from_length}
 use Rattle.plan_machine.specs.declared.entry.Phase.{Phase}
 use Rattle.plan_machine.specs.declared.entry.Phase.TheVariants.{Emitting, Folding, Streaming, Tailing, Sealed, Done}
 use Rattle.plan_machine.specs.declared.entry.Job.{Job}
 use Rattle.plan_machine.specs.declared.entry.Job.TheVariants.{Emit, Fold, Seal, Stream, Close, Tail}
 use Rattle.plan_machine.specs.Batch.{parts}
-use Rattle.plan_machine.specs.Plan.{Plan, IsNode, IsWorker, folds_from, streams_from}
+use Rattle.plan_machine.specs.Plan.{Plan, folds_from, streams_from}
 use Rattle.plan_machine.specs.State.{State, tasks_at, tail_rows, IsEndedEdge}
-use Rattle.plan_machine.specs.Enabled.{CanDo, Ready, CanStop, CanPause}
+use Rattle.plan_machine.specs.Enabled.{CanDo}
 use Rattle.plan_machine.specs.InFlight.{phase_of}
-use Rattle.plan_machine.specs.Driver.{place_of, IsPreferred, IsClaimChoice, NoClaim}
-use Rattle.task_core.specs.Choosing.{job_by, number_by, NoJob, IsFirstJob, IsFirstWork, NoWork}
+use Rattle.plan_machine.specs.Driver.{place_of}
+use Rattle.task_core.specs.Choosing.{job_by, number_by, NoJob, IsFirstJob}
 
 pub and_left : (a b : Bool) → (a && b) ≡ true → a ≡ true
 and_left true b e = refl

@@ -1,20 +1,19 @@
 -- What a claim of a chosen flight finds and leaves, as its calls say it.
-use Rattle.std.proofs.Common.{◌≡◌, ◌≢◌, ℕ, zero, suc, ◌+◌, ◌-◌, ◌^◌, ◌<◌, ◌≤◌, Bool, true, false, nat_eq, List, [], ◌∷◌, ◌++◌, length, map, Option, Some, None, refl, sym, ap, subst, ◌∙◌, arith, slice_index_or, slice_set}
-use Rattle.std.specs.VecDeque.{deque_len, deque_capacity}
+use Rattle.std.proofs.Common.{◌≡◌, ℕ, zero, suc, ◌+◌, ◌-◌, ◌^◌, ◌<◌, ◌≤◌, Bool, true, List, [], ◌∷◌, ◌++◌, length, Option, Some, None, refl, sym, ap, subst, ◌∙◌, arith, slice_index_or, slice_set}
+use Rattle.std.specs.VecDeque.{deque_len}
 use Rattle.scalar_value.specs.declared.value.Value.{Value}
 use Rattle.scalar_value.specs.declared.value.ColType.{ColType}
 use Rattle.plan_machine.specs.declared.entry.Phase.{Phase}
 use Rattle.plan_machine.specs.declared.entry.Phase.TheVariants.{Emitting, Folding, Streaming, Tailing, Sealed, Done}
 use Rattle.plan_machine.specs.declared.entry.Job.{Job}
 use Rattle.plan_machine.specs.declared.entry.Job.TheVariants.{Emit, Fold, Seal, Stream, Close, Tail}
-use Rattle.plan_machine.specs.declared.entry.Entry.{Entry}
 use Rattle.plan_machine.specs.declared.entry.Entry.TheVariants.{Claim}
 use Rattle.plan_machine.specs.Batch.{Batch, blank}
 use Rattle.plan_machine.specs.Lists.{at_or}
-use Rattle.plan_machine.specs.Plan.{Plan as MachinePlan, IsNode, IsWorker}
-use Rattle.plan_machine.specs.State.{State, Task, tasks_at, opening}
+use Rattle.plan_machine.specs.Plan.{Plan as MachinePlan, IsNode}
+use Rattle.plan_machine.specs.State.{State, opening}
 use Rattle.plan_machine.specs.Enabled.{Enabled, CanDo}
-use Rattle.plan_machine.specs.History.{state_after, peak}
+use Rattle.plan_machine.specs.History.{peak}
 use Rattle.plan_machine.specs.WellFormed.{Lawful, WellFormed}
 use Rattle.plan_machine.proofs.Turn.{folds_input, streams_input, Started}
 use Rattle.plan_machine.proofs.Steps.{run, good-opening}
@@ -27,8 +26,8 @@ use Rattle.task_core.specs.declared.queue.Queue.{Queue}
 use Rattle.task_core.specs.declared.stage.Stage.{Stage}
 use Rattle.task_core.specs.declared.stage.NodeInfo.{NodeInfo}
 use Rattle.task_core.specs.declared.stage.Flight.{Flight}
-use Rattle.task_core.specs.Told.{Given, Told, plan_of, state_of, site_of}
-use Rattle.task_core.specs.Stored.{Stands, QueueIs, IsWaiting, waiting_item, goes_on, takes_all, PartStands}
+use Rattle.task_core.specs.Told.{Told, plan_of, state_of, site_of}
+use Rattle.task_core.specs.Stored.{Stands, QueueIs, IsWaiting, waiting_item, goes_on, takes_all}
 use Rattle.task_core.specs.Claiming.{gives_next, takes_batch, with_task, IsEntering, IsShortened, reads_from, IsShareOf, IsRowOf, IsOldest}
 use Rattle.task_core.proofs.Held.{some_of}
 use Rattle.task_core.proofs.Delivering.{site_workers}

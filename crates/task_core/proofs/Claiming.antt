@@ -1,27 +1,24 @@
 -- What is stored where a claim is enabled, and once it was made.
-use Rattle.std.proofs.Common.{◌≡◌, ◌≢◌, ℕ, zero, suc, ◌+◌, ◌-◌, ◌*◌, ◌^◌, ◌<◌, ◌≤◌, max, Bool, true, false, cond, nat_eq, List, [], ◌∷◌, ◌++◌, length, map, Option, Some, None, refl, sym, ap, subst, ◌∙◌, ◌⊎◌, inl, inr, arith, slice_index_or, slice_set}
+use Rattle.std.proofs.Common.{◌≡◌, ◌≢◌, ℕ, zero, suc, ◌+◌, ◌-◌, ◌^◌, ◌<◌, ◌≤◌, Bool, true, false, cond, nat_eq, List, [], ◌∷◌, ◌++◌, length, map, Option, Some, None, refl, sym, ap, subst, ◌∙◌, ◌⊎◌, inl, inr, arith, slice_index_or, slice_set}
 use Rattle.std.proofs.lemmas.List.{length-set, length-append}
-use Rattle.std.specs.VecDeque.{deque_len, deque_capacity}
 use Rattle.scalar_value.specs.declared.value.Value.{Value}
 use Rattle.scalar_value.specs.declared.value.ColType.{ColType}
 use Rattle.plan_machine.specs.declared.entry.Phase.{Phase}
-use Rattle.plan_machine.specs.declared.entry.Phase.TheVariants.{Emitting, Folding, Streaming, Tailing, Sealed, Done}
 use Rattle.plan_machine.specs.declared.entry.Job.{Job}
 use Rattle.plan_machine.specs.declared.entry.Job.TheVariants.{Emit, Fold, Seal, Stream, Close, Tail}
 use Rattle.plan_machine.specs.declared.entry.Entry.{Entry}
 use Rattle.plan_machine.specs.declared.entry.Entry.TheVariants.{Claim}
-use Rattle.plan_machine.specs.Lists.{upd, at_or, without, gather, weigh, sum_to}
+use Rattle.plan_machine.specs.Lists.{upd, at_or, without, gather}
 use Rattle.plan_machine.specs.Batch.{Batch, blank}
-use Rattle.plan_machine.specs.Plan.{Plan as MachinePlan, IsNode, IsWorker, folds_from, streams_from}
+use Rattle.plan_machine.specs.Plan.{Plan as MachinePlan}
 use Rattle.plan_machine.specs.State.{State, Task, tasks_at, on_node, opening}
 use Rattle.plan_machine.specs.Enabled.{Enabled, CanDo}
-use Rattle.plan_machine.specs.InFlight.{phase_of, TaskFits, TaskFit}
+use Rattle.plan_machine.specs.InFlight.{phase_of, TaskFits}
 use Rattle.plan_machine.specs.After.{after, claimed, task_of}
 use Rattle.plan_machine.specs.History.{state_after, peak}
 use Rattle.plan_machine.proofs.Kept.{fitting}
 use Rattle.plan_machine.proofs.Weigh.{upd-here, upd-else, same_or}
 use Rattle.plan_machine.proofs.Sums.{sum_ones}
-use Rattle.plan_machine.proofs.Flight.{none-flying}
 use Rattle.plan_nodes.specs.Operators.{OpMeaning}
 use Rattle.task_work.specs.Sites.{Site}
 use Rattle.task_work.specs.declared.work.Share.{Share}
@@ -31,10 +28,9 @@ use Rattle.task_core.specs.declared.stage.Stage.{Stage}
 use Rattle.task_core.specs.declared.stage.NodeInfo.{NodeInfo}
 use Rattle.task_core.specs.declared.stage.Flight.{Flight}
 use Rattle.task_core.specs.Told.{Given, plan_of, site_of}
-use Rattle.task_core.specs.Stored.{Held, Stored, Stands, StageIs, QueueIs, IsWaiting, waiting_item, goes_on, in_flight, takes_all, AllAway, Away, PartStands, SlotStands, SlotIs, RowIs, is_live}
-use Rattle.task_core.specs.Choosing.{input_by}
-use Rattle.task_core.specs.Claiming.{gives_next, takes_batch, next_by, with_task, IsEntering, IsShortened, reads_from}
-use Rattle.task_core.proofs.Held.{held_set, some_of}
+use Rattle.task_core.specs.Stored.{Stored, Stands, StageIs, QueueIs, IsWaiting, waiting_item, goes_on, in_flight, takes_all, AllAway, Away, PartStands, SlotIs, RowIs, is_live}
+use Rattle.task_core.specs.Claiming.{gives_next, takes_batch, next_by, with_task, IsShortened, reads_from}
+use Rattle.task_core.proofs.Held.{held_set}
 use Rattle.task_core.proofs.Growing.{peak_covers, with_most, standing}
 use Rattle.task_core.proofs.Seated.{seated}
 use Rattle.task_core.proofs.Choosing.{can_phase, not_done}

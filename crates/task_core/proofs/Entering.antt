@@ -1,16 +1,16 @@
 -- What is stored once a worker has a task: its seat, its node's stage, and the shares of all nodes.
-use Rattle.std.proofs.Common.{◌≡◌, ◌≢◌, ℕ, zero, suc, ◌+◌, ◌-◌, ◌<◌, ◌≤◌, max, Bool, true, false, nat_eq, List, [], ◌∷◌, ◌++◌, length, Option, Some, None, refl, sym, ap, subst, ◌∙◌, ◌⊎◌, inl, inr, arith, slice_index_or, slice_set}
-use Rattle.std.proofs.lemmas.List.{length-set, get_or-set_same, get_or-set_other, get_or_past}
+use Rattle.std.proofs.Common.{◌≡◌, ◌≢◌, ℕ, suc, ◌+◌, ◌<◌, ◌≤◌, Bool, true, nat_eq, List, [], length, Option, Some, None, refl, sym, ap, subst, ◌∙◌, ◌⊎◌, inl, inr, arith, slice_index_or, slice_set}
+use Rattle.std.proofs.lemmas.List.{length-set, get_or-set_same, get_or-set_other}
 use Rattle.scalar_value.specs.declared.value.Value.{Value}
 use Rattle.scalar_value.specs.declared.value.ColType.{ColType}
 use Rattle.plan_machine.specs.declared.entry.Phase.{Phase}
 use Rattle.plan_machine.specs.declared.entry.Job.{Job}
-use Rattle.plan_machine.specs.Lists.{upd, sum_to, weigh}
+use Rattle.plan_machine.specs.Lists.{upd, sum_to}
 use Rattle.plan_machine.specs.Batch.{Batch}
 use Rattle.plan_machine.specs.Plan.{Plan as MachinePlan, IsWorker}
-use Rattle.plan_machine.specs.State.{State, Task, on_node, tasks_at}
+use Rattle.plan_machine.specs.State.{State, Task, on_node}
 use Rattle.plan_machine.proofs.Weigh.{upd-here, upd-else, same_or, weigh-one}
-use Rattle.plan_machine.proofs.Sums.{sum_changed, sum_ones}
+use Rattle.plan_machine.proofs.Sums.{sum_changed}
 use Rattle.plan_machine.proofs.Flight.{flying, flying-more, flying-same, on_node-else}
 use Rattle.plan_nodes.specs.Operators.{OpMeaning}
 use Rattle.task_work.specs.Sites.{Site}
@@ -20,7 +20,7 @@ use Rattle.task_core.specs.declared.stage.Stage.{Stage}
 use Rattle.task_core.specs.declared.stage.NodeInfo.{NodeInfo}
 use Rattle.task_core.specs.declared.stage.Flight.{Flight}
 use Rattle.task_core.specs.Told.{Given, plan_of, site_of}
-use Rattle.task_core.specs.Stored.{Held, Stored, StageIs, QueueIs, SeatIs, goes_on, in_flight, takes_all, AllAway, Away, PartStands, SlotStands, SlotIs, RowIs, is_live}
+use Rattle.task_core.specs.Stored.{Held, Stored, StageIs, QueueIs, SeatIs, goes_on, in_flight, takes_all, AllAway, Away, SlotStands, SlotIs, RowIs}
 use Rattle.task_core.specs.Claiming.{with_task, next_by}
 use Rattle.task_core.proofs.Held.{held_set}
 use Rattle.task_core.proofs.Landing.{Tasks}

@@ -1,6 +1,6 @@
 -- Histories that grow by an entry, and what is stored then.
-use Rattle.std.proofs.Common.{◌≡◌, ◌≢◌, ℕ, suc, ◌+◌, ◌-◌, ◌<◌, ◌≤◌, max, Bool, List, [], ◌∷◌, ◌++◌, length, Option, refl, sym, ap, subst, ◌∙◌, arith}
-use Rattle.std.proofs.Math.Nat.{le-max_left, le-max_right}
+use Rattle.std.proofs.Common.{◌≡◌, ℕ, ◌+◌, ◌≤◌, max, Bool, List, [], ◌∷◌, ◌++◌, length, Option, sym, subst, arith}
+use Rattle.std.proofs.Math.Nat.{le-max_right}
 use Rattle.std.proofs.lemmas.List.{length-append}
 use Rattle.scalar_value.specs.declared.value.Value.{Value}
 use Rattle.scalar_value.specs.declared.value.ColType.{ColType}
@@ -10,7 +10,7 @@ use Rattle.plan_machine.specs.Plan.{Plan as MachinePlan}
 use Rattle.plan_machine.specs.State.{State, opening}
 use Rattle.plan_machine.specs.Enabled.{Enabled}
 use Rattle.plan_machine.specs.After.{after}
-use Rattle.plan_machine.specs.History.{replay, IsLegal, IsHistory, state_after, peak}
+use Rattle.plan_machine.specs.History.{replay, state_after, peak}
 use Rattle.plan_machine.proofs.DriverHistory.{grows}
 use Rattle.plan_nodes.specs.Operators.{OpMeaning}
 use Rattle.task_work.specs.declared.work.Share.{Share}
@@ -19,7 +19,7 @@ use Rattle.task_core.specs.declared.stage.Stage.{Stage}
 use Rattle.task_core.specs.declared.stage.NodeInfo.{NodeInfo}
 use Rattle.task_core.specs.declared.stage.Flight.{Flight}
 use Rattle.task_core.specs.Told.{Given, plan_of, site_of}
-use Rattle.task_core.specs.Stored.{Held, Stored, Stands, QueueIs, goes_on}
+use Rattle.task_core.specs.Stored.{Stored, Stands, QueueIs, goes_on}
 use Rattle.task_core.proofs.Held.{held_map}
 
 -- no more batches wait on an edge than its peak says

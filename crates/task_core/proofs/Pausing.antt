@@ -1,9 +1,9 @@
 -- An edge is paused, or goes on.
-use Rattle.std.proofs.Common.{◌≡◌, ◌≢◌, ℕ, suc, ◌+◌, ◌-◌, ◌<◌, ◌≤◌, max, Bool, true, false, List, [], ◌∷◌, ◌++◌, length, Option, refl, sym, ap, subst, ◌∙◌, arith, slice_index_or, slice_set}
+use Rattle.std.proofs.Common.{◌≡◌, ℕ, suc, ◌+◌, ◌-◌, ◌<◌, ◌≤◌, max, Bool, true, List, [], ◌∷◌, ◌++◌, length, Option, refl, sym, subst, ◌∙◌, arith, slice_index_or, slice_set}
 use Rattle.scalar_value.specs.declared.value.Value.{Value}
 use Rattle.scalar_value.specs.declared.value.ColType.{ColType}
 use Rattle.plan_machine.specs.declared.entry.Entry.{Entry}
-use Rattle.plan_machine.specs.declared.entry.Entry.TheVariants.{Pause, Resume}
+use Rattle.plan_machine.specs.declared.entry.Entry.TheVariants.{Pause}
 use Rattle.plan_machine.specs.Lists.{upd}
 use Rattle.plan_machine.specs.Batch.{Batch}
 use Rattle.plan_machine.specs.State.{State, opening}
@@ -18,7 +18,7 @@ use Rattle.task_core.specs.declared.stage.Stage.{Stage}
 use Rattle.task_core.specs.declared.stage.NodeInfo.{NodeInfo}
 use Rattle.task_core.specs.declared.stage.Flight.{Flight}
 use Rattle.task_core.specs.Told.{Given, plan_of, site_of}
-use Rattle.task_core.specs.Stored.{Held, Stored, Stands, QueueIs, goes_on}
+use Rattle.task_core.specs.Stored.{Stored, Stands, QueueIs, goes_on}
 use Rattle.task_core.specs.Queues.{with_paused}
 use Rattle.std.proofs.lemmas.List.{length-set}
 use Rattle.task_core.proofs.Held.{held_set, some_of}

@@ -5,7 +5,7 @@ use Rattle.std.specs.declared.sync.Arc.{Arc}
 use Rattle.std.specs.Arc.{arc_value}
 use Rattle.row_table.specs.Tables.{TableValue}
 use Rattle.task_core.specs.Told.{rows_of_tables}
-use Rattle.std.proofs.Common.{Option, Some, None, ◌≤◌, arith, ◌≡◌, ℕ, zero, suc, ◌+◌, Bool, true, false, cond, List, [], ◌∷◌, drop, length, refl, sym, ap, ◌∙◌}
+use Rattle.std.proofs.Common.{Option, Some, None, ◌≤◌, arith, ◌≡◌, ℕ, zero, suc, ◌+◌, Bool, true, false, cond, List, [], ◌∷◌, drop, refl, sym, ap, ◌∙◌}
 use Rattle.scalar_value.specs.declared.value.Value.{Value}
 use Rattle.plan_machine.specs.Lists.{at_or}
 use Rattle.plan_nodes.specs.declared.node.Node.{Node}

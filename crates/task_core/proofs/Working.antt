@@ -1,26 +1,25 @@
 -- What a claim took is the work of its task.
-use Rattle.std.proofs.Common.{◌≡◌, ◌≢◌, ℕ, zero, suc, ◌+◌, ◌-◌, ◌<◌, ◌≤◌, Bool, true, false, cond, ◌&&◌, nat_eq, List, [], ◌∷◌, ◌++◌, length, map, Option, Some, None, refl, sym, ap, subst, ◌∙◌, ◌⊎◌, inl, inr, arith, Vec, append_assoc, append-nil, eqb-true, slice_index_or}
+use Rattle.std.proofs.Common.{◌≡◌, ℕ, zero, suc, ◌+◌, ◌<◌, ◌≤◌, Bool, true, false, cond, ◌&&◌, nat_eq, List, [], ◌∷◌, ◌++◌, length, map, Option, Some, None, refl, sym, ap, subst, ◌∙◌, ◌⊎◌, inl, inr, arith, Vec, append_assoc, append-nil, eqb-true, slice_index_or}
 use Rattle.std.specs.declared.alloc.Global.{Global}
 use Rattle.std.specs.declared.sync.Arc.{Arc}
 use Rattle.scalar_value.specs.declared.value.Value.{Value}
 use Rattle.scalar_value.specs.declared.value.ColType.{ColType}
 use Rattle.row_table.specs.Tables.{TableValue}
-use Rattle.column_batch.specs.Batches.{BatchValue, kinds_of}
+use Rattle.column_batch.specs.Batches.{kinds_of}
 use Rattle.plan_machine.specs.declared.entry.Phase.{Phase}
-use Rattle.plan_machine.specs.declared.entry.Phase.TheVariants.{Emitting, Folding, Streaming, Tailing, Sealed, Done}
+use Rattle.plan_machine.specs.declared.entry.Phase.TheVariants.{Emitting, Folding, Streaming, Tailing}
 use Rattle.plan_machine.specs.declared.entry.Job.{Job}
 use Rattle.plan_machine.specs.declared.entry.Job.TheVariants as job
-use Rattle.plan_machine.specs.declared.entry.Entry.{Entry}
 use Rattle.plan_machine.specs.declared.entry.Entry.TheVariants.{Claim}
 use Rattle.plan_machine.specs.declared.shape.OpShape.{OpShape}
 use Rattle.plan_machine.specs.Phases.{first_phase_of, part_count_of}
 use Rattle.plan_machine.specs.Lists.{upd, at_or, gather}
 use Rattle.plan_machine.specs.Batch.{Batch, blank, parts, rows_of}
-use Rattle.plan_machine.specs.Plan.{Plan as MachinePlan, IsNode, IsWorker, Folds, OnlyStreams, folds_from, streams_from}
-use Rattle.plan_machine.specs.State.{State, Task, tail_rows, opening}
-use Rattle.plan_machine.specs.Enabled.{Enabled, CanDo, Ready}
+use Rattle.plan_machine.specs.Plan.{IsNode, IsWorker, folds_from, streams_from}
+use Rattle.plan_machine.specs.State.{State, Task, opening}
+use Rattle.plan_machine.specs.Enabled.{Enabled}
 use Rattle.plan_machine.specs.After.{after, claimed, task_of}
-use Rattle.plan_machine.specs.History.{state_after, IsHistory}
+use Rattle.plan_machine.specs.History.{IsHistory}
 use Rattle.plan_machine.specs.WellFormed.{Lawful, WellFormed, Streams}
 use Rattle.plan_machine.proofs.DriverHistory.{grows}
 use Rattle.plan_machine.proofs.Weigh.{upd-here}
@@ -30,16 +29,15 @@ use Rattle.plan_nodes.specs.declared.node.Node.{Node}
 use Rattle.plan_nodes.specs.declared.node.NodeKind.{NodeKind}
 use Rattle.plan_nodes.specs.declared.node.NodeKind.TheVariants.{Source, Filter, Project, HashJoin, Sink}
 use Rattle.plan_nodes.specs.Kinds.{kind_meaning, input_count, is_source}
-use Rattle.plan_nodes.specs.Operators.{OpMeaning, item, first_of, second_of, folded_of, size_of, end_count, Each, flat}
+use Rattle.plan_nodes.specs.Operators.{OpMeaning, item, first_of, second_of, folded_of, size_of, Each, flat}
 use Rattle.plan_nodes.specs.Plans.{IsPlan, node_at, input_kinds, input_at, machine_node_at}
 use Rattle.task_work.specs.Sites.{Site}
 use Rattle.task_work.specs.declared.work.Part.{Part}
 use Rattle.task_work.specs.declared.work.Share.{Share}
 use Rattle.task_work.specs.declared.work.Share.TheVariants as share
-use Rattle.task_work.specs.declared.work.Work.{Work}
 use Rattle.task_work.specs.declared.work.Work.TheVariants as work
 use Rattle.task_work.specs.declared.work.Waiting.{Waiting}
-use Rattle.task_work.specs.Work.{IsTable, IsShared, IsPart, IsPartOf, IsRow, IsFolded, IsStreamed, IsWork}
+use Rattle.task_work.specs.Work.{IsTable, IsShared, IsPart, IsPartOf, IsRow, IsFolded, IsStreamed}
 use Rattle.task_core.specs.Told.{Given, Told, plan_of, state_of, site_of, with_entry}
 use Rattle.task_core.specs.Stored.{PartStands, IsWaiting, waiting_item, goes_on}
 use Rattle.task_core.specs.Claiming.{reads_from, IsShareOf, IsRowOf, IsOldest, IsWorkOf}

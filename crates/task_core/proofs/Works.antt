@@ -1,5 +1,5 @@
 -- A claim that was chosen gives the work of its task.
-use Rattle.std.proofs.Common.{◌≡◌, ◌≢◌, ℕ, zero, suc, ◌+◌, ◌-◌, ◌<◌, ◌≤◌, Bool, true, List, [], ◌∷◌, length, Option, Some, None, Vec, refl, sym, ap, subst, ◌∙◌, ◌⊎◌, inl, inr, arith}
+use Rattle.std.proofs.Common.{◌≡◌, ℕ, Bool, List, Option, Some, Vec, sym, ap, subst, ◌∙◌, inl, inr, arith}
 use Rattle.std.specs.declared.alloc.Global.{Global}
 use Rattle.std.specs.declared.sync.Arc.{Arc}
 use Rattle.scalar_value.specs.declared.value.Value.{Value}
@@ -9,8 +9,8 @@ use Rattle.plan_machine.specs.declared.entry.Job.{Job}
 use Rattle.plan_machine.specs.declared.entry.Job.TheVariants as job
 use Rattle.plan_machine.specs.declared.entry.Entry.TheVariants.{Claim}
 use Rattle.plan_machine.specs.Batch.{Batch}
-use Rattle.plan_machine.specs.Enabled.{Enabled, CanDo}
-use Rattle.plan_machine.specs.Driver.{IsClaimChoice, IsPreferred, place_of}
+use Rattle.plan_machine.specs.Enabled.{Enabled}
+use Rattle.plan_machine.specs.Driver.{IsClaimChoice, place_of}
 use Rattle.plan_machine.specs.History.{IsHistory}
 use Rattle.plan_machine.specs.WellFormed.{Lawful, WellFormed}
 use Rattle.plan_nodes.specs.Operators.{OpMeaning}

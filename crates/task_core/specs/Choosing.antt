@@ -8,7 +8,6 @@ use Rattle.plan_machine.specs.Plan.{Plan, IsNode}
 use Rattle.plan_machine.specs.State.{State}
 use Rattle.plan_machine.specs.Enabled.{CanDo}
 use Rattle.plan_machine.specs.Driver.{place_of}
-use Rattle.task_core.specs.declared.stage.Stage.{Stage}
 
 -- The job of a phase: `waits` and `ended` say whether a batch waits on the input that the phase reads, and whether that
 -- input has ended, and `paused` whether the node's own edge is paused.

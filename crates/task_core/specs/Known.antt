@@ -1,12 +1,9 @@
 -- What is known of every state that a legal history reaches without a Fail, beside that its tasks fit.
-use Rattle.std.specs.Prelude.{◌≡◌, ℕ, true, false, List, [], Some, ◌⊎◌}
+use Rattle.std.specs.Prelude.{◌≡◌, ℕ, true, false, [], Some, ◌⊎◌}
 use Rattle.plan_machine.specs.declared.entry.Phase.TheVariants.{Emitting, Folding, Streaming, Tailing}
-use Rattle.plan_machine.specs.declared.entry.Entry.{Entry}
 use Rattle.plan_machine.specs.Plan.{Plan, IsNode, IsWorker, IsSource}
 use Rattle.plan_machine.specs.State.{State, Task}
 use Rattle.plan_machine.specs.After.{is_done}
-use Rattle.plan_machine.specs.History.{IsHistory, state_after}
-use Rattle.plan_machine.specs.WellFormed.{Lawful, WellFormed}
 
 -- A task in flight knows what its node has gathered and streamed as it still is, unless the node was stopped. A node has
 -- gathered nothing while it is Folding, and streamed nothing before it is Tailing. Sources alone are Emitting, and nodes

@@ -12,7 +12,7 @@ use Rattle.plan_machine.specs.History.{IsHistory, IsEnded, state_after, peak, re
 use Rattle.plan_machine.specs.Meaning.{SameRows, meaning}
 use Rattle.plan_nodes.specs.declared.node.Node.{Node}
 use Rattle.plan_nodes.specs.Kinds.{is_source}
-use Rattle.plan_nodes.specs.Plans.{IsPlan, IsSourceTable, node_at, meaning_at}
+use Rattle.plan_nodes.specs.Plans.{IsSourceTable, node_at, meaning_at}
 use Rattle.plan_nodes.specs.Operators.{OpMeaning, Each}
 use Rattle.task_core.specs.declared.setting.Setting.{Setting}
 use Rattle.task_core.specs.declared.result.Finished.{Finished}

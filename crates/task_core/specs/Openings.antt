@@ -1,13 +1,11 @@
 -- What is stored of each node as a run begins.
 use Rattle.std.specs.Prelude.{ℕ, Bool, true, false, cond, List, [], ◌∷◌}
 use Rattle.scalar_value.specs.declared.value.Value.{Value}
-use Rattle.plan_machine.specs.declared.entry.Phase.{Phase}
 use Rattle.plan_machine.specs.Phases.{first_phase_of}
 use Rattle.plan_machine.specs.Batch.{parts}
-use Rattle.plan_machine.specs.Lists.{at_or}
 use Rattle.plan_nodes.specs.declared.node.Node.{Node}
 use Rattle.plan_nodes.specs.Kinds.{kind_meaning, is_source}
-use Rattle.plan_nodes.specs.Plans.{node_at, user_of, input_at, is_kept, tables_of}
+use Rattle.plan_nodes.specs.Plans.{user_of, input_at, is_kept}
 use Rattle.task_core.specs.declared.stage.NodeInfo.{NodeInfo}
 use Rattle.task_core.specs.declared.stage.Stage.{Stage}
 

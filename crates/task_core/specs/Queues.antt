@@ -1,5 +1,5 @@
 -- What the calls on queues leave.
-use Rattle.std.specs.Prelude.{ℕ, Bool}
+use Rattle.std.specs.Prelude.{Bool}
 use Rattle.task_core.specs.declared.queue.Queue.{Queue}
 
 abbrev pub with_paused : Queue → Bool → Queue

@@ -1,5 +1,5 @@
 -- What is stored of a plan's state, and what it stands for.
-use Rattle.std.specs.Prelude.{◌≡◌, ℕ, suc, ◌+◌, ◌<◌, ◌≤◌, ◌^◌, Bool, true, false, cond, nat_eq, ◌&&◌, List, [], ◌∷◌, length, map, Option, Some, None, ◌⊎◌, slice_index_or, vec_capacity, IsTrue, All}
+use Rattle.std.specs.Prelude.{◌≡◌, ℕ, suc, ◌+◌, ◌<◌, ◌≤◌, ◌^◌, Bool, true, false, nat_eq, ◌&&◌, List, [], length, map, Option, Some, None, ◌⊎◌, slice_index_or}
 use Rattle.std.specs.VecDeque.{deque_capacity}
 use Rattle.scalar_value.specs.declared.value.Value.{Value}
 use Rattle.scalar_value.specs.declared.value.ColType.{ColType}
@@ -10,7 +10,7 @@ use Rattle.plan_machine.specs.declared.entry.Job.TheVariants as job
 use Rattle.plan_machine.specs.declared.entry.Entry.{Entry}
 use Rattle.plan_machine.specs.Batch.{Batch, parts, rows_of}
 use Rattle.plan_machine.specs.Lists.{sum_to}
-use Rattle.plan_machine.specs.Plan.{Node as MachineNode, Plan as MachinePlan, IsSource, streams_from}
+use Rattle.plan_machine.specs.Plan.{Plan as MachinePlan, streams_from}
 use Rattle.plan_machine.specs.Phases.{first_phase_of}
 use Rattle.plan_machine.specs.State.{State, Task, tasks_at, opening}
 use Rattle.plan_machine.specs.History.{IsHistory, state_after, peak}

@@ -18,7 +18,8 @@ pub fn is_source(kind: &NodeKind) -> bool
 {
     match kind {
         NodeKind::Source(_) => true,
-        NodeKind::Filter(_) | NodeKind::Project(_) | NodeKind::HashJoin(_) | NodeKind::Sink => false,
+        NodeKind::Filter(_) | NodeKind::Project(_) | NodeKind::HashJoin(_) | NodeKind::Sink =>
+            false,
     }
 }
 

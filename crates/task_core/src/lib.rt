@@ -3,13 +3,13 @@
 
 mod choice;
 mod claim;
-mod infos;
 mod deliver;
-mod putting;
 mod due;
 mod failing;
+mod infos;
 mod legal;
 mod outcome;
+mod putting;
 mod queue;
 mod result;
 mod room;

@@ -74,7 +74,11 @@ fn stage_of(node: &Node, rows: usize, batch: u32) -> Stage
     Stage {
         phase: first_phase(source, shape_of(&node.kind)),
         next: 0,
-        count: if source { part_count(rows as u64, batch) } else { 0 },
+        count: if source {
+            part_count(rows as u64, batch)
+        } else {
+            0
+        },
         busy: 0,
     }
 }

@@ -8,6 +8,6 @@ abbrev pub invariant-loop-place : goal.invariant-loop-place
 invariant-loop-place l =
     (length l.made.items ≡ l._place)
     × ((k : ℕ) (d : Queue) → k < l._place →
-        ((slice_index_or l.made.items k d).waiting.items ≡ [])
-        × (l.places ≤ deque_capacity (slice_index_or l.made.items k d).waiting)
-        × ((slice_index_or l.made.items k d).edge ≡ quiet))
+    ((slice_index_or l.made.items k d).waiting.items ≡ [])
+    × (l.places ≤ deque_capacity (slice_index_or l.made.items k d).waiting)
+    × ((slice_index_or l.made.items k d).edge ≡ quiet))

@@ -1,5 +1,4 @@
-use Rattle.std.proofs.Common.{rules, ◌≡◌, ℕ, drop, length, Bool, true, ap, sym, subst, ◌∙◌, arith}
-use Rattle.std.specs.Arc.{arc_value}
+use Rattle.std.proofs.Common.{rules, ◌≡◌, drop, length, true, ap, sym, ◌∙◌}
 use Rattle.task_core.specs.Told.{rows_of_tables}
 use Rattle.task_core.specs.Openings.{next_table}
 use Rattle.task_core.proofs.Tables.{next_there, next_past}

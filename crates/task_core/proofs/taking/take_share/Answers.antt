@@ -1,4 +1,4 @@
-use Rattle.std.proofs.Common.{◌≡◌, ◌<◌, length, arith, [], ◌∷◌, List, None, slice_set, ap, sym, subst}
+use Rattle.std.proofs.Common.{◌<◌, length, arith, [], None, slice_set, ap, sym, subst}
 use Rattle.task_core.proofs.Rows.{row_read, row_set}
 use Rattle.task_core.proofs.taking.take_share.Goals as goal
 

@@ -1,4 +1,4 @@
-use Rattle.std.proofs.Common.{◌≡◌, sym, ap}
+use Rattle.std.proofs.Common.{sym, ap}
 use Rattle.task_core.specs.Told.{site_of}
 use Rattle.task_core.proofs.state.PlanState.batch_rows.Goals as goal
 

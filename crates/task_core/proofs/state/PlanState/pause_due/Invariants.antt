@@ -1,4 +1,4 @@
-use Rattle.std.proofs.Common.{ℕ, ◌<◌, ◌≤◌}
+use Rattle.std.proofs.Common.{ℕ, ◌<◌}
 use Rattle.plan_machine.specs.Enabled.{CanPause}
 use Rattle.task_core.specs.Told.{plan_of, state_of}
 use Rattle.task_core.proofs.state.PlanState.pause_due.Given as goal

@@ -1,4 +1,4 @@
-use Rattle.std.proofs.Common.{◌≡◌, ◌≤◌, ℕ, ◌+◌, ◌-◌, sym, subst, arith}
+use Rattle.std.proofs.Common.{◌≤◌, sym, subst, arith}
 use Rattle.plan_machine.specs.Enabled.{Enabled}
 use Rattle.plan_machine.specs.declared.entry.Entry.TheVariants.{Claim}
 use Rattle.task_core.specs.Told.{Told, given_by, plan_of, state_of}
