@@ -1,9 +1,8 @@
-ghost use Rattle.std.specs.Prelude.{◌≡◌, ◌+◌, ◌^◌, ◌<◌, ◌≤◌, [], ◌∷◌, false, IfOk};
+ghost use Rattle.std.specs.Prelude.{◌≡◌, ◌+◌, ◌^◌, ◌<◌, false};
 ghost use Rattle.scalar_value.specs.Gives.{Gives};
 ghost use Rattle.token_scan.specs.Spans.{AreInOrder};
 ghost use Rattle.verb_syntax.specs.Lines.{is_line, is_passed, deeper, goes_on};
 ghost use Rattle.verb_syntax.specs.Operators.{ends_operand, is_counted, count_at};
-ghost use Rattle.syntax_steps.specs.Machine.{begin};
 ghost use Rattle.verb_syntax.specs.Reader.{limited, reads};
 ghost use Rattle.verb_syntax.specs.Parsing.{IsParsed, DeriveOne};
 ghost use Rattle.verb_syntax.specs.Counting.{CountsOperators};
