@@ -1,7 +1,7 @@
 -- Unfinished rules: `Frame` is a rule of which the tokens so far have the beginning. The innermost stands first.
 use Rattle.std.specs.Prelude.{ℕ, suc, ◌+◌, List, [], ◌∷◌, Bool, true, false}
-use Rattle.verb_syntax.specs.declared.frame.Frame.{Frame}
-use Rattle.verb_syntax.specs.Grammar.{binary_rule, prefix_rule}
+use Rattle.syntax_steps.specs.declared.frame.Frame.{Frame}
+use Rattle.syntax_steps.specs.Rules.{binary_rule, prefix_rule}
 
 -- whether a rule is a level while it is unfinished: `(` of a call or of an expression, `-` and `!` before an operand
 abbrev pub level_of : Frame → ℕ

@@ -1,15 +1,15 @@
 ghost use Rattle.std.specs.Prelude.{◌≡◌, ◌∷◌, IfOk};
 ghost use Rattle.scalar_value.specs.Gives.{GivesSome};
-ghost use Rattle.verb_syntax.specs.Trees.{binary_term, unary_term};
-ghost use Rattle.verb_syntax.specs.Grammar.{is_package};
-ghost use Rattle.verb_syntax.specs.Machine.{settle, held, infix_step, prefix_step, operator_step, open_step, whole, argument, comma_step, called, close_bare, close_value, close_step, labels, label_step, pipe_step, assign_step, pipe_held, stored, sep_step, name_step, literal_in, literal_step, text_step, oper_step, kind_step, step, finished, finish};
+ghost use Rattle.syntax_tree.specs.Trees.{binary_term, unary_term};
+ghost use Rattle.syntax_steps.specs.Rules.{is_package};
+ghost use Rattle.syntax_steps.specs.Machine.{settle, held, infix_step, prefix_step, operator_step, open_step, whole, argument, comma_step, called, close_bare, close_value, close_step, labels, label_step, pipe_step, assign_step, pipe_held, stored, sep_step, name_step, literal_in, literal_step, text_step, oper_step, kind_step, begin, step, finished, finish};
 
 use crate::frame::{Frame, Frames};
 use crate::rule::{in_args, in_body, left_of, may_call, may_pipe, need_of, prefix_of, rule_of};
 use crate::state::{Held, Mode, Pending, Refused, State};
-use crate::tree::{Arg, Call, Pipe, Script, Term, TermKind};
 use scalar_value::{Boxed, Mem, Or, Res, Seq, Text};
 use std::alloc::Global;
+use syntax_tree::{Arg, Call, Pipe, Script, Term, TermKind};
 use token_scan::{Oper, Token, TokenKind};
 
 fn binary_of(alloc: Global, at: u32, op: Oper, left: Term, right: Term) -> Mem<Term>
@@ -700,6 +700,18 @@ fn oper(alloc: Global, op: Oper, at: u32, mode: Mode, frames: Frames) -> Res<Sta
         Oper::Semicolon => separator(alloc, mode, frames),
         _ => operator(alloc, op, at, mode, frames),
     }
+}
+
+/// What has been read before the first token of a script: no statement.
+pub fn begun(alloc: Global) -> Mem<State>
+    ensures { IfOk result (λ made. made ≡ begin) }
+{
+    let mut frames = Frames::new(alloc);
+    frames.push(Frame::Body(Seq::new(alloc)))?;
+    Ok(State {
+        mode: Mode::Want,
+        frames,
+    })
 }
 
 /// What has been read behind one more token, and none where the token is not the next of a script.

@@ -1,10 +1,10 @@
 ghost use Rattle.std.specs.Prelude.{◌≡◌, ◌≤◌, [], ◌∷◌, OnOk, MatchOption, drop};
-ghost use Rattle.verb_syntax.specs.Levels.{levels, level_of};
+ghost use Rattle.syntax_steps.specs.Levels.{levels, level_of};
 
-use crate::tree::{Arg, Call, Pipe, Term};
 use scalar_value::{Mem, Seq, Text};
 use std::alloc::Global;
 use std::marker::Model;
+use syntax_tree::{Arg, Call, Pipe, Term};
 use token_scan::Oper;
 
 /// A rule of the grammar that the tokens read so far leave unfinished, with the parts that it has.
@@ -37,9 +37,9 @@ pub struct Frames {
 
 impl Model for Frames {
     ghost use Rattle.std.specs.Prelude.{List, reverse, ◌≡◌};
-    ghost use Rattle.verb_syntax.specs.declared.frame.Frame.{Frame as Unfinished};
-    ghost use Rattle.verb_syntax.specs.Levels.{levels as levels_of};
-    ghost use Rattle.verb_syntax.specs.contracts.frame.Frame as unfinished;
+    ghost use Rattle.syntax_steps.specs.declared.frame.Frame.{Frame as Unfinished};
+    ghost use Rattle.syntax_steps.specs.Levels.{levels as levels_of};
+    ghost use Rattle.syntax_steps.specs.contracts.frame.Frame as unfinished;
     ghost use Rattle.std.specs.Coded.{coded_list};
 
     ghost Value = { List Unfinished };
@@ -69,7 +69,8 @@ impl Frame {
 }
 
 impl Frames {
-    pub fn new(alloc: Global) -> Frames
+    /// No rule.
+    pub(crate) fn new(alloc: Global) -> Frames
         ensures { result ≡ [] }
     {
         Frames {
@@ -79,7 +80,7 @@ impl Frames {
     }
 
     /// The innermost rule.
-    pub fn top(&self) -> Option<&Frame>
+    pub(crate) fn top(&self) -> Option<&Frame>
         ensures { MatchOption result (self.now ≡ []) (λ frame. self.now ≡ frame.now ∷ drop 1 self.now) }
     {
         self.items.last()
@@ -93,7 +94,7 @@ impl Frames {
     }
 
     /// One more rule inside the others.
-    pub fn push(&mut self, frame: Frame) -> Mem<()>
+    pub(crate) fn push(&mut self, frame: Frame) -> Mem<()>
         ensures { OnOk result (self.new ≡ frame ∷ self.old) }
     {
         let level = frame.level();
@@ -105,7 +106,7 @@ impl Frames {
     }
 
     /// Takes the innermost rule off.
-    pub fn pop(&mut self) -> Option<Frame>
+    pub(crate) fn pop(&mut self) -> Option<Frame>
         ensures { MatchOption result ((self.old ≡ []) × (self.new ≡ [])) (λ frame. self.old ≡ frame ∷ self.new) }
     {
         let frame = self.items.pop()?;

@@ -1,7 +1,6 @@
 ghost use Rattle.std.specs.Prelude.{◌≡◌, IfOk};
 
 use scalar_value::{Boxed, Dec6, Duplicate, Mem, Seq, Text};
-use thiserror::Error;
 use token_scan::{Oper, Reserved};
 
 /// A script: its assignments in their order, and the pipeline whose table is shown.
@@ -59,26 +58,6 @@ pub enum TermKind {
     Binary(Oper, Boxed<Term>, Boxed<Term>),
     Call(Call),
     Pipe(Boxed<Pipe>),
-}
-
-/// A script's first fault of grammar, and the byte place where it stands.
-#[derive(Debug, Clone, Copy, PartialEq, Eq, Error)]
-#[error("{kind} at byte {at}")]
-pub struct SyntaxFault {
-    pub kind: SyntaxKind,
-    pub at: u32,
-}
-
-/// What is wrong: a token with which no script goes on; an end where the tokens only begin a script;
-/// a token that opens one level too many, or is one binary operator too many of an argument.
-#[derive(Debug, Clone, Copy, PartialEq, Eq, Error)]
-pub enum SyntaxKind {
-    #[error("unexpected token")]
-    Unexpected,
-    #[error("unfinished script")]
-    Unfinished,
-    #[error("nested too deep")]
-    TooDeep,
 }
 
 impl Script {

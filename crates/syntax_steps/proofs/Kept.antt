@@ -4,21 +4,21 @@ use Rattle.std.specs.Str.{bytes_eq}
 use Rattle.std.proofs.lemmas.Option.{option_and_then_some}
 use Rattle.token_scan.specs.declared.token.TokenKind.{TokenKind}
 use Rattle.token_scan.specs.declared.token.Oper.{Oper}
-use Rattle.verb_syntax.specs.declared.tree.Term.{Term}
-use Rattle.verb_syntax.specs.declared.tree.Arg.{Arg}
-use Rattle.verb_syntax.specs.declared.tree.Pipe.{Pipe}
-use Rattle.verb_syntax.specs.declared.tree.TermKind.{TermKind}
-use Rattle.verb_syntax.specs.declared.tree.TermKind.TheVariants as kind
-use Rattle.verb_syntax.specs.declared.frame.Frame.{Frame}
-use Rattle.verb_syntax.specs.declared.state.Mode.{Mode}
-use Rattle.verb_syntax.specs.declared.state.State.{State}
-use Rattle.verb_syntax.specs.declared.state.Held.{Held}
-use Rattle.verb_syntax.specs.declared.state.Pending.{Pending}
-use Rattle.verb_syntax.specs.Trees.{term_of, name_term, text_term, binary_term, unary_term, pipe_term, arg_of, pipe_of}
-use Rattle.verb_syntax.specs.Grammar.{binary_rule, left_rule, prefix_rule, is_package}
-use Rattle.verb_syntax.specs.Levels.{levels, need, takes_pipe, takes_call}
-use Rattle.verb_syntax.specs.Machine.{◌>>=◌, state_of, want, held_of, pending_of, settle, held, placed, infix_step, operator_step, is_body, is_args, open_step, whole, argument, comma_step, called, close_bare, close_value, close_step, label_step, pipe_step, assign_step, pipe_held, stored, sep_step, name_step, literal_in, literal_step, text_step, oper_step, kind_step}
-use Rattle.verb_syntax.proofs.Basics.{bool_cases, no_some, at_some, if_some}
+use Rattle.syntax_tree.specs.declared.tree.Term.{Term}
+use Rattle.syntax_tree.specs.declared.tree.Arg.{Arg}
+use Rattle.syntax_tree.specs.declared.tree.Pipe.{Pipe}
+use Rattle.syntax_tree.specs.declared.tree.TermKind.{TermKind}
+use Rattle.syntax_tree.specs.declared.tree.TermKind.TheVariants as kind
+use Rattle.syntax_steps.specs.declared.frame.Frame.{Frame}
+use Rattle.syntax_steps.specs.declared.state.Mode.{Mode}
+use Rattle.syntax_steps.specs.declared.state.State.{State}
+use Rattle.syntax_steps.specs.declared.state.Held.{Held}
+use Rattle.syntax_steps.specs.declared.state.Pending.{Pending}
+use Rattle.syntax_tree.specs.Trees.{term_of, name_term, text_term, binary_term, unary_term, pipe_term, arg_of, pipe_of}
+use Rattle.syntax_steps.specs.Rules.{binary_rule, left_rule, prefix_rule, is_package}
+use Rattle.syntax_steps.specs.Levels.{levels, need, takes_pipe, takes_call}
+use Rattle.syntax_steps.specs.Machine.{◌>>=◌, state_of, want, held_of, pending_of, settle, held, placed, infix_step, operator_step, is_body, is_args, open_step, whole, argument, comma_step, called, close_bare, close_value, close_step, label_step, pipe_step, assign_step, pipe_held, stored, sep_step, name_step, literal_in, literal_step, text_step, oper_step, kind_step}
+use Rattle.syntax_steps.proofs.Basics.{bool_cases, no_some, at_some, if_some}
 
 abbrev pub Kept : ℕ → Mode → List Frame → Type 0
 Kept most Mode.Want fs = Unit {0}

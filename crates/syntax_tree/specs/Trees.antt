@@ -1,12 +1,12 @@
 -- The parts of a syntax tree, made of their fields.
 use Rattle.std.specs.Prelude.{ℕ, List, Option}
 use Rattle.token_scan.specs.declared.token.Oper.{Oper}
-use Rattle.verb_syntax.specs.declared.tree.Term.{Term, roll-Term}
-use Rattle.verb_syntax.specs.declared.tree.Call.{Call, roll-Call}
-use Rattle.verb_syntax.specs.declared.tree.Arg.{Arg, roll-Arg}
-use Rattle.verb_syntax.specs.declared.tree.Pipe.{Pipe, roll-Pipe}
-use Rattle.verb_syntax.specs.declared.tree.TermKind.{TermKind}
-use Rattle.verb_syntax.specs.declared.tree.TermKind.TheVariants as kind
+use Rattle.syntax_tree.specs.declared.tree.Term.{Term, roll-Term}
+use Rattle.syntax_tree.specs.declared.tree.Call.{Call, roll-Call}
+use Rattle.syntax_tree.specs.declared.tree.Arg.{Arg, roll-Arg}
+use Rattle.syntax_tree.specs.declared.tree.Pipe.{Pipe, roll-Pipe}
+use Rattle.syntax_tree.specs.declared.tree.TermKind.{TermKind}
+use Rattle.syntax_tree.specs.declared.tree.TermKind.TheVariants as kind
 
 -- an expression that stands at this place
 abbrev pub term_of : ℕ → TermKind → Term

@@ -6,20 +6,20 @@ use Rattle.std.specs.Str.{bytes_eq}
 use Rattle.token_scan.specs.declared.token.Token.{Token}
 use Rattle.token_scan.specs.declared.token.TokenKind.{TokenKind}
 use Rattle.token_scan.specs.declared.token.Oper.{Oper}
-use Rattle.verb_syntax.specs.declared.tree.Term.{Term}
-use Rattle.verb_syntax.specs.declared.tree.Pipe.{Pipe}
-use Rattle.verb_syntax.specs.declared.tree.Arg.{Arg}
-use Rattle.verb_syntax.specs.declared.tree.Script.{Script}
-use Rattle.verb_syntax.specs.declared.tree.TermKind.{TermKind}
-use Rattle.verb_syntax.specs.declared.tree.TermKind.TheVariants as kind
-use Rattle.verb_syntax.specs.declared.frame.Frame.{Frame}
-use Rattle.verb_syntax.specs.declared.state.Mode.{Mode}
-use Rattle.verb_syntax.specs.declared.state.State.{State}
-use Rattle.verb_syntax.specs.declared.state.Held.{Held}
-use Rattle.verb_syntax.specs.declared.state.Pending.{Pending}
-use Rattle.verb_syntax.specs.Trees.{term_of, name_term, text_term, binary_term, unary_term, call_term, pipe_term, call_of, arg_of, pipe_of}
-use Rattle.verb_syntax.specs.Grammar.{binary_rule, left_rule, prefix_rule, is_package}
-use Rattle.verb_syntax.specs.Levels.{need, takes_pipe, takes_call}
+use Rattle.syntax_tree.specs.declared.tree.Term.{Term}
+use Rattle.syntax_tree.specs.declared.tree.Pipe.{Pipe}
+use Rattle.syntax_tree.specs.declared.tree.Arg.{Arg}
+use Rattle.syntax_tree.specs.declared.tree.Script.{Script}
+use Rattle.syntax_tree.specs.declared.tree.TermKind.{TermKind}
+use Rattle.syntax_tree.specs.declared.tree.TermKind.TheVariants as kind
+use Rattle.syntax_steps.specs.declared.frame.Frame.{Frame}
+use Rattle.syntax_steps.specs.declared.state.Mode.{Mode}
+use Rattle.syntax_steps.specs.declared.state.State.{State}
+use Rattle.syntax_steps.specs.declared.state.Held.{Held}
+use Rattle.syntax_steps.specs.declared.state.Pending.{Pending}
+use Rattle.syntax_tree.specs.Trees.{term_of, name_term, text_term, binary_term, unary_term, call_term, pipe_term, call_of, arg_of, pipe_of}
+use Rattle.syntax_steps.specs.Rules.{binary_rule, left_rule, prefix_rule, is_package}
+use Rattle.syntax_steps.specs.Levels.{need, takes_pipe, takes_call}
 
 infixl 10 ◌>>=◌
 abbrev pub ◌>>=◌ : {A B : Type 0} → Option A → (A → Option B) → Option B

@@ -1,6 +1,6 @@
 use crate::frame::Frames;
-use crate::tree::{Arg, Call, Pipe, Term};
 use scalar_value::{Seq, Text};
+use syntax_tree::{Arg, Call, Pipe, Term};
 
 /// What stands behind the innermost unfinished rule.
 #[derive(Drop)]

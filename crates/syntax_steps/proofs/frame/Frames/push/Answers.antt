@@ -2,8 +2,8 @@
 use Rattle.std.proofs.Common.{rules, ◌≡◌, ◌∷◌, [], length, arith, length-append, ap, ◌∙◌}
 use Rattle.std.specs.Prelude.{reverse}
 use Rattle.std.proofs.lemmas.List.{length-reverse}
-use Rattle.verb_syntax.proofs.Basics.{levels_small}
-use Rattle.verb_syntax.proofs.frame.Frames.push.Goals as goal
+use Rattle.syntax_steps.proofs.Basics.{levels_small}
+use Rattle.syntax_steps.proofs.frame.Frames.push.Goals as goal
 
 pub prove-unreachable-requires : goal.prove-unreachable-requires
 prove-unreachable-requires c =

@@ -2,8 +2,8 @@
 use Rattle.std.proofs.Common.{◌≡◌, ℕ, ◌<◌, ◌≤◌, List, [], ◌∷◌, length, Bool, true, false, cond, eqb, leb, ltb, ◌&&◌, ◌⊎◌, inl, inr, Some, None, refl, subst, arith}
 use Rattle.std.proofs.lemmas.Bool.Decides.{nat_tests}
 use Rattle.std.proofs.lemmas.Option.{same_Some}
-use Rattle.verb_syntax.specs.declared.frame.Frame.{Frame}
-use Rattle.verb_syntax.specs.Levels.{levels, level_of}
+use Rattle.syntax_steps.specs.declared.frame.Frame.{Frame}
+use Rattle.syntax_steps.specs.Levels.{levels, level_of}
 
 pub leb_true : (a b : ℕ) → a ≤ b → leb a b ≡ true
 leb_true a b h = grind (arith, nat_tests)

@@ -1,5 +1,5 @@
 use Rattle.std.proofs.Common.{◌≡◌, take}
-use Rattle.verb_syntax.proofs.tree.+copy.Given as goal
+use Rattle.syntax_tree.proofs.tree.+copy.Given as goal
 
 abbrev pub invariant-Call::copy-loop-arg : goal.invariant-Call::copy-loop-arg
 invariant-Call::copy-loop-arg l = l.args ≡ take l.arg-index l.arg-items

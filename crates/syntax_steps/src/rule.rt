@@ -1,7 +1,7 @@
 ghost use Rattle.std.specs.Prelude.{◌≡◌, ◌≤◌};
-ghost use Rattle.verb_syntax.specs.Grammar.{binary_rule, left_rule, prefix_rule};
-ghost use Rattle.verb_syntax.specs.Levels.{need, takes_pipe, takes_call};
-ghost use Rattle.verb_syntax.specs.Machine.{is_body, is_args};
+ghost use Rattle.syntax_steps.specs.Rules.{binary_rule, left_rule, prefix_rule};
+ghost use Rattle.syntax_steps.specs.Levels.{need, takes_pipe, takes_call};
+ghost use Rattle.syntax_steps.specs.Machine.{is_body, is_args};
 
 use crate::frame::{Frame, Frames};
 use token_scan::Oper;

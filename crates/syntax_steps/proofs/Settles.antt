@@ -1,14 +1,14 @@
 -- How operators settle.
 use Rattle.std.proofs.Common.{◌≡◌, ℕ, suc, ◌<◌, ◌≤◌, ◌≢◌, List, [], ◌∷◌, inl, inr, refl, sym, ◌∙◌, ap, arith}
 use Rattle.token_scan.specs.declared.token.Oper.{Oper}
-use Rattle.verb_syntax.specs.declared.tree.Term.{Term}
-use Rattle.verb_syntax.specs.declared.frame.Frame.{Frame}
-use Rattle.verb_syntax.specs.declared.state.Held.{Held}
-use Rattle.verb_syntax.specs.Trees.{binary_term, unary_term}
-use Rattle.verb_syntax.specs.Grammar.{binary_rule, left_rule, prefix_rule}
-use Rattle.verb_syntax.specs.Levels.{need}
-use Rattle.verb_syntax.specs.Machine.{settle, held_of}
-use Rattle.verb_syntax.proofs.Basics.{leb_true, leb_false, le_cases}
+use Rattle.syntax_tree.specs.declared.tree.Term.{Term}
+use Rattle.syntax_steps.specs.declared.frame.Frame.{Frame}
+use Rattle.syntax_steps.specs.declared.state.Held.{Held}
+use Rattle.syntax_tree.specs.Trees.{binary_term, unary_term}
+use Rattle.syntax_steps.specs.Rules.{binary_rule, left_rule, prefix_rule}
+use Rattle.syntax_steps.specs.Levels.{need}
+use Rattle.syntax_steps.specs.Machine.{settle, held_of}
+use Rattle.syntax_steps.proofs.Basics.{leb_true, leb_false, le_cases}
 
 pub left_ge : (op : Oper) → binary_rule op ≤ left_rule op
 left_ge Oper.Tilde = omega arith
