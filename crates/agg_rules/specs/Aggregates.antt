@@ -1,8 +1,8 @@
 -- The aggregates, each as a statement on the whole list of its values.
 use Rattle.std.specs.Prelude.{ℕ, ◌^◌, ◌-◌, ℤ, pos, ◌*ℤ◌, Bool, true, false, nat_lt, if◌then◌else◌, Option, Some, None, List, [], ◌∷◌, length, filter, map, slice_get, unwrap_or}
-use Rattle.std.specs.List.{list_any, list_all}
+use Rattle.std.specs.List.{list_any}
 use Rattle.scalar_value.specs.declared.value.Value.{Value}
-use Rattle.scalar_value.specs.declared.value.Value.TheVariants.{Missing, Int, Dec, Chr, Day, Lgl}
+use Rattle.scalar_value.specs.declared.value.Value.TheVariants.{Missing, Lgl}
 use Rattle.scalar_value.specs.declared.value.ColType.{ColType}
 use Rattle.scalar_value.specs.declared.value.ColType.TheVariants as type
 use Rattle.scalar_value.specs.Decimals.{million}
@@ -11,7 +11,7 @@ use Rattle.scalar_value.specs.Numbers.{half, as_int, as_dec}
 use Rattle.agg_rules.specs.declared.aggregate.AggKind.{AggKind}
 use Rattle.agg_rules.specs.declared.aggregate.AggKind.TheVariants.{Count, Sum, Mean, Min, Max, Distinct, Any, All, First, Last}
 use Rattle.agg_rules.specs.declared.aggregate.AggCall.{AggCall}
-use Rattle.agg_rules.specs.Lists.{unless_missing, summed_number, millionths_of, sum_of, foremost, each_once}
+use Rattle.agg_rules.specs.Lists.{unless_missing, summed_number, sum_of, foremost, each_once}
 
 -- ---- types
 
@@ -73,11 +73,19 @@ is_countable vs = nat_lt (length vs) (2 ^ 64)
 unfoldable pub sum_value : ColType → List Value → Value
 sum_value t vs = unless_missing vs (if is_countable vs then as_sum t (sum_of (map summed_number vs)) else Missing)
 
+-- the mean as a value, by the sum of so many values of this type
+abbrev pub as_mean : ColType → ℤ → ℕ → Value
+as_mean type.Int sum n = as_dec (half (sum *ℤ million) (pos n))
+as_mean type.Dec sum n = as_dec (half sum (pos n))
+as_mean type.Chr sum n = Missing
+as_mean type.Date sum n = Missing
+as_mean type.Lgl sum n = as_dec (half (sum *ℤ million) (pos n))
+
 -- the exact mean, rounded half away from zero; missing of nothing and where a sum is
-unfoldable pub mean_value : List Value → Value
-mean_value [] = Missing
-mean_value (v ∷ vs) =
-    unless_missing (v ∷ vs) (if is_countable (v ∷ vs) then as_dec (half (sum_of (map millionths_of (v ∷ vs))) (pos (length (v ∷ vs)))) else Missing)
+unfoldable pub mean_value : ColType → List Value → Value
+mean_value t [] = Missing
+mean_value t (v ∷ vs) =
+    unless_missing (v ∷ vs) (if is_countable (v ∷ vs) then as_mean t (sum_of (map summed_number (v ∷ vs))) (length (v ∷ vs)) else Missing)
 
 -- the smallest and the greatest value; missing of nothing and where a value is
 unfoldable pub min_value : List Value → Value
@@ -114,7 +122,7 @@ looked_at false vs = vs
 abbrev pub agg_of : AggKind → ColType → Bool → List Value → Value
 agg_of Count t na_rm vs = count_value vs
 agg_of Sum t na_rm vs = sum_value t (looked_at na_rm vs)
-agg_of Mean t na_rm vs = mean_value (looked_at na_rm vs)
+agg_of Mean t na_rm vs = mean_value t (looked_at na_rm vs)
 agg_of Min t na_rm vs = min_value (looked_at na_rm vs)
 agg_of Max t na_rm vs = max_value (looked_at na_rm vs)
 agg_of Distinct t na_rm vs = distinct_value (looked_at na_rm vs)

@@ -1,3 +1,4 @@
 pub mod Aggregates
 pub mod Lists
+pub mod Running
 pub mod Windows

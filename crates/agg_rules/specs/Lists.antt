@@ -1,10 +1,9 @@
 -- Lists of values: which are missing, their sums, and how many of them are smaller or different.
-use Rattle.std.specs.Prelude.{ℕ, ◌+◌, ◌*◌, ℤ, pos, ◌+ℤ◌, ◌*ℤ◌, Bool, true, false, not, ◌&&◌, if◌then◌else◌, List, [], ◌∷◌, length, filter, map, find, unwrap_or}
+use Rattle.std.specs.Prelude.{ℤ, pos, ◌+ℤ◌, Bool, true, false, not, if◌then◌else◌, List, [], ◌∷◌, find, unwrap_or}
 use Rattle.std.specs.List.{list_any, list_all}
 use Rattle.std.specs.Ordering.{is_lt}
 use Rattle.scalar_value.specs.declared.value.Value.{Value}
 use Rattle.scalar_value.specs.declared.value.Value.TheVariants.{Missing, Int, Dec, Chr, Day, Lgl}
-use Rattle.scalar_value.specs.Decimals.{million}
 use Rattle.scalar_value.specs.Truths.{is_missing}
 use Rattle.scalar_value.specs.Order.{value_cmp, value_same, truth_number}
 
@@ -22,15 +21,6 @@ summed_number (Chr t) = pos 0
 summed_number (Day d) = pos 0
 summed_number (Lgl b) = truth_number b
 summed_number Missing = pos 0
-
--- the exact number that a value stands for, in millionths; TRUE is 1
-abbrev pub millionths_of : Value → ℤ
-millionths_of (Int z) = z *ℤ million
-millionths_of (Dec m) = m
-millionths_of (Chr t) = pos 0
-millionths_of (Day d) = pos 0
-millionths_of (Lgl b) = truth_number b *ℤ million
-millionths_of Missing = pos 0
 
 -- the exact sum of whole numbers of any size
 abbrev pub sum_of : List ℤ → ℤ

@@ -1,5 +1,5 @@
 -- The window values: for each row of a group, a statement on the whole list of the group's values.
-use Rattle.std.specs.Prelude.{ℕ, ◌+◌, ◌-◌, ℤ, pos, Bool, true, false, not, ◌&&◌, nat_le, if◌then◌else◌, List, length, filter, map, take, drop, reverse, find, slice_get, unwrap_or, count_by}
+use Rattle.std.specs.Prelude.{ℕ, ◌+◌, ◌-◌, pos, Bool, ◌&&◌, nat_le, if◌then◌else◌, List, length, filter, take, drop, reverse, find, slice_get, unwrap_or}
 use Rattle.scalar_value.specs.declared.value.Value.{Value}
 use Rattle.scalar_value.specs.declared.value.Value.TheVariants.{Missing, Int, Dec, Chr, Day, Lgl}
 use Rattle.scalar_value.specs.Numbers.{as_int}

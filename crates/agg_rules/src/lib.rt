@@ -2,9 +2,14 @@
 #![tactic(auto)]
 
 mod aggregate;
+mod distinct;
+mod foremost;
+mod sums;
+mod value;
 mod window;
 
 pub use aggregate::{AggCall, AggKind, agg_type};
+pub use value::agg_value;
 pub use window::WindowKind;
 
 #[cfg(test)]

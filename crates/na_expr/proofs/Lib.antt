@@ -1,2 +1,4 @@
 pub mod ListSteps
 pub mod TypeSteps
+pub mod TypedOperators
+pub mod TypedValues

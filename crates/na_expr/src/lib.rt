@@ -3,11 +3,14 @@
 
 mod eval;
 mod expr;
+mod held;
+mod laws;
 mod operators;
 mod types;
 
 pub use eval::eval_row;
 pub use expr::{Expr, ExprFn, TypeFault};
+pub use laws::values_are_typed;
 pub use types::type_of;
 
 #[cfg(test)]

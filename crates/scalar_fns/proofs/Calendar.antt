@@ -98,7 +98,7 @@ month_day_is (negsuc y) m d day civil e h = let same = year_is (negsuc y) m d da
 tests : (m d last : ℕ) → 1 ≤ m → m ≤ 12 → 1 ≤ d → d ≤ last → ((nat_le 1 m && nat_le m 12) && (nat_le 1 d && nat_le d last)) ≡ true
 tests m d last a b c e = grind arith
 
-tested : (m d last : ℕ) → ((nat_le 1 m && nat_le m 12) && (nat_le 1 d && nat_le d last)) ≡ true → (1 ≤ m) × (m ≤ 12) × (1 ≤ d) × (d ≤ last)
+pub tested : (m d last : ℕ) → ((nat_le 1 m && nat_le m 12) && (nat_le 1 d && nat_le d last)) ≡ true → (1 ≤ m) × (m ≤ 12) × (1 ≤ d) × (d ≤ last)
 tested m d last h = (grind arith, grind arith, grind arith, grind arith)
 
 is_true : (y m d : ℕ) → IsDate (pos y) (pos m) (pos d) → is_date y m d ≡ true

@@ -1,3 +1,4 @@
 pub mod Calendar
 pub mod CharSteps
+pub mod DayOrder
 pub mod SmallBytes

@@ -1,3 +1,4 @@
+pub mod DayLaws
 pub mod Days
 pub mod Texts
 pub mod Written

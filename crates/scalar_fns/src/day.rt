@@ -4,6 +4,8 @@ ghost use Rattle.jiff_core.specs.Date.{epoch_day};
 ghost use Rattle.scalar_value.specs.Order.{is_day};
 ghost use Rattle.scalar_fns.specs.Days.{two_digits as number_of_two, year_of, month_of, month_day_of, wday_of, day_plus, day_of_date, day_of_text};
 
+ghost use Rattle.scalar_fns.specs.DayLaws.{DaysAreOrdered, EpochIsDayZero, HasDate};
+
 use jiff_core::civil::Date;
 
 /// 0000-01-01 and 9999-12-31.
@@ -20,6 +22,22 @@ fn date_of(day: i32) -> Date
         Ok(date) => date,
         Err(_) => unreachable!(),
     }
+}
+
+/// The law of the numbers of days: of two dates the one that comes before in the calendar has the smaller number, and
+/// 1970-01-01 is 0. With `day_has_date` nothing is left open: the numbers are the places of the dates.
+pub fn days_are_ordered()
+    ensures ordered { DaysAreOrdered }
+    ensures start { EpochIsDayZero }
+{}
+
+/// The law that each number from 0000-01-01 to 9999-12-31 is the day of the date that its year, month and place in the
+/// month make.
+pub fn day_has_date(day: i32)
+    requires { is_day day ≡ true }
+    ensures { HasDate day }
+{
+    let _date = date_of(day);
 }
 
 /// The year of a day, as lubridate's `year`.

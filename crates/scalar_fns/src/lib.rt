@@ -5,7 +5,7 @@ mod day;
 mod texts;
 mod written;
 
-pub use day::{day_add, day_of, month, read_day, wday, year};
+pub use day::{day_add, day_has_date, day_of, days_are_ordered, month, read_day, wday, year};
 pub use texts::{chars, lower, substr, upper};
 pub use written::write_value;
 

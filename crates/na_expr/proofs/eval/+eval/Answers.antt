@@ -17,5 +17,5 @@ eval_cases-loop-at-preserved t c =
 pub eval_cases-returns : goal.eval_cases-returns
 eval_cases-returns t c =
     let place : length c.args.args.now - 1 ≡ 2 * c.loop-at.at = omega arith in
-    c.carried-2.ensures ∙ ap (carried c.args.kind) c.in_ok-eval_row-2.ensures
+    c.carried-2.ensures ∙ ap (carried c.args.kind) c.in_ok-eval-2.ensures
     ∙ sym (c.loop-at.invariant ∙ last_case (val c.args.row.now) c.args.kind c.args.args.now (2 * c.loop-at.at) c.index-args-args.result (omega arith) (rw place at c.index-args-args.is))

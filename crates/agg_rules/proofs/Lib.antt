@@ -1,0 +1,5 @@
+pub mod DifferentSteps
+pub mod FirstSteps
+pub mod MeanSteps
+pub mod MissingSteps
+pub mod SumSteps
