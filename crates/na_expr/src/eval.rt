@@ -267,12 +267,7 @@ fn eval<'a>(alloc: Global, e: &'a Expr, row: &'a Row) -> Mem<Held<'a>>
 
 #[cycle(eval)]
 /// The value of a call.
-fn eval_args<'a>(
-    alloc: Global,
-    function: ExprFn,
-    args: &'a [Expr],
-    row: &'a Row,
-) -> Mem<Held<'a>>
+fn eval_args<'a>(alloc: Global, function: ExprFn, args: &'a [Expr], row: &'a Row) -> Mem<Held<'a>>
     ensures { IfOk result (λ v. held_value v ≡ call_value function (map (val row.now) args.now)) }
 {
     match function {
@@ -286,12 +281,7 @@ fn eval_args<'a>(
 
 #[cycle(eval)]
 /// The value of a call of a function of one to three values.
-fn eval_call<'a>(
-    alloc: Global,
-    function: ExprFn,
-    args: &'a [Expr],
-    row: &'a Row,
-) -> Mem<Held<'a>>
+fn eval_call<'a>(alloc: Global, function: ExprFn, args: &'a [Expr], row: &'a Row) -> Mem<Held<'a>>
     requires { is_list_function function ≡ false }
     ensures { IfOk result (λ v. held_value v ≡ call_value function (map (val row.now) args.now)) }
 {
@@ -358,12 +348,7 @@ fn holds(alloc: Global, condition: &Expr, row: &Row) -> Mem<bool>
 
 #[cycle(eval)]
 /// The value behind the first condition that is TRUE, else the default.
-fn eval_cases<'a>(
-    alloc: Global,
-    kind: ColType,
-    args: &'a [Expr],
-    row: &'a Row,
-) -> Mem<Held<'a>>
+fn eval_cases<'a>(alloc: Global, kind: ColType, args: &'a [Expr], row: &'a Row) -> Mem<Held<'a>>
     ensures { IfOk result (λ v. held_value v ≡ first_case kind (map (val row.now) args.now)) }
 {
     for at in 0..args.len() / 2 {
@@ -379,12 +364,7 @@ fn eval_cases<'a>(
 
 #[cycle(eval)]
 /// The first value that is not missing.
-fn eval_coalesce<'a>(
-    alloc: Global,
-    kind: ColType,
-    args: &'a [Expr],
-    row: &'a Row,
-) -> Mem<Held<'a>>
+fn eval_coalesce<'a>(alloc: Global, kind: ColType, args: &'a [Expr], row: &'a Row) -> Mem<Held<'a>>
     ensures { IfOk result (λ v. held_value v ≡ carried_value kind (first_there (map (val row.now) args.now))) }
 {
     for arg in args {

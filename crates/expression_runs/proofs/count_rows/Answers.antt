@@ -1,4 +1,4 @@
-use Rattle.std.proofs.Common.{ℕ, ◌+◌, List, ◌≡◌, ◌∙◌, sym, ap, Bool, true, false, arith}
+use Rattle.std.proofs.Common.{ℕ, ◌+◌, List, ◌∙◌, sym, ap, Bool, arith}
 use Rattle.std.proofs.lemmas.List.Sums.{count_by_more_yes, count_by_more_no}
 use Rattle.scalar_value.specs.declared.value.Value.{Value}
 use Rattle.scalar_value.specs.Order.{value_same}

@@ -1,7 +1,7 @@
-use Rattle.std.proofs.Common.{◌-◌, ◌≡◌, ◌∙◌, sym, ap, ◌*◌, ◌+◌, ℕ, ◌<◌, arith, length, map, drop}
+use Rattle.std.proofs.Common.{◌-◌, ◌≡◌, ◌∙◌, sym, ap, ◌*◌, ◌+◌, ℕ, arith, length, map, drop}
 use Rattle.na_expr.specs.Evaluation.{val}
 use Rattle.na_expr.specs.Operators.{first_case, carried}
-use Rattle.na_expr.proofs.ListSteps.{too_many, case_step, last_case, among_first}
+use Rattle.na_expr.proofs.ListSteps.{too_many, case_step, last_case}
 use Rattle.na_expr.proofs.eval.+eval.Goals as goal
 
 pub eval_call-returns-in-len4-up : goal.eval_call-returns-in-len4-up
