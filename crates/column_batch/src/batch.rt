@@ -111,9 +111,10 @@ impl Batch {
         self.kinds.as_slice()
     }
 
-    /// The rows in their order.
+    /// The rows in their order. They fit the types of the columns.
     pub fn rows(&self) -> &[Row]
-        ensures { result.now ≡ self.now.rows }
+        ensures rows { result.now ≡ self.now.rows }
+        ensures fits { IsTrue (fit_kinds self.now.kinds self.now.rows) }
     {
         self.rows.as_slice()
     }

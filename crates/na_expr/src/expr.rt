@@ -88,3 +88,9 @@ fn copy_all(args: &Seq<Expr>) -> Mem<Seq<Expr>>
     }
     Ok(made)
 }
+
+impl Duplicate for Expr {
+    fn duplicate(&self) -> Mem<Expr> {
+        self.copy()
+    }
+}

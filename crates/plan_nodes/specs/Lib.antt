@@ -1,0 +1,5 @@
+pub mod Operators
+pub mod Kinds
+pub mod Plans
+pub mod PlanLaws
+pub mod Examples

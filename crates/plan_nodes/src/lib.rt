@@ -1,0 +1,13 @@
+//! The nodes of a plan, and what the work of each is on batches.
+#![tactic(auto)]
+
+mod laws;
+mod node;
+mod operator;
+
+pub use laws::{plans_are_well_formed, plans_exist};
+pub use node::{JoinSpec, Node, NodeKind, Plan, mark_of};
+pub use operator::{Operator, Streamed};
+
+#[cfg(test)]
+mod tests;
