@@ -1,5 +1,5 @@
 -- Calls over lists of arguments, argument by argument.
-use Rattle.std.proofs.Common.{◌||◌, ℕ, suc, zero, ◌+◌, ◌*◌, ◌<◌, ◌≤◌, Bool, true, false, if◌then◌else◌, ◌≡◌, refl, sym, ap, ◌∙◌, List, [], ◌∷◌, length, map, take, drop, get_or, arith, add-one, drop-cons}
+use Rattle.std.proofs.Common.{◌||◌, ℕ, suc, ◌+◌, ◌<◌, ◌≤◌, Bool, true, false, if◌then◌else◌, ◌≡◌, refl, sym, ap, ◌∙◌, List, [], ◌∷◌, length, map, drop, get_or, arith, drop-cons}
 use Rattle.std.specs.List.{list_any}
 use Rattle.std.proofs.lemmas.List.{drop_all}
 use Rattle.scalar_value.specs.declared.value.Value.{Value}

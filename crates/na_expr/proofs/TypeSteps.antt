@@ -1,9 +1,9 @@
 -- The types of the parts of a call, part by part.
-use Rattle.std.proofs.Common.{ℕ, suc, zero, ◌+◌, ◌*◌, ◌<◌, ◌≤◌, ◌&&◌, Bool, true, false, ◌≡◌, refl, sym, ap, ◌∙◌, List, [], ◌∷◌, length, map, drop, get_or, fold, arith, drop-cons, Result, Ok, Err, Option, None, Some}
+use Rattle.std.proofs.Common.{ℕ, suc, ◌+◌, ◌<◌, ◌≤◌, ◌&&◌, Bool, true, false, ◌≡◌, refl, sym, ap, ◌∙◌, List, [], ◌∷◌, length, map, drop, get_or, fold, arith, drop-cons, Result, Ok, Err, Option, None}
 use Rattle.std.proofs.lemmas.List.{drop_all}
 use Rattle.scalar_value.specs.declared.value.ColType.{ColType}
 use Rattle.na_expr.specs.declared.expr.TypeFault.{TypeFault}
-use Rattle.na_expr.specs.declared.expr.TypeFault.TheVariants.{WrongType, WrongArguments}
+use Rattle.na_expr.specs.declared.expr.TypeFault.TheVariants.{WrongArguments}
 use Rattle.na_expr.specs.declared.expr.ExprFn.{ExprFn}
 use Rattle.na_expr.specs.declared.expr.ExprFn.TheVariants as call
 use Rattle.na_expr.specs.Evaluation.{takes_list}

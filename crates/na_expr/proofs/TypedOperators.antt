@@ -1,5 +1,5 @@
 -- Each operator and function gives a value of the type that its rule gives, or a missing one.
-use Rattle.std.proofs.Common.{ℕ, zero, suc, ℤ, pos, negsuc, neg_ℤ, ◌+ℤ◌, Bool, true, false, not, ◌&&◌, ◌||◌, if◌then◌else◌, Option, Some, None, Result, Ok, Err, ◌≡◌, refl, sym, ap, subst, ◌∙◌, List, [], ◌∷◌, int_lt}
+use Rattle.std.proofs.Common.{ℕ, zero, suc, ℤ, pos, negsuc, neg_ℤ, ◌+ℤ◌, Bool, true, false, not, ◌||◌, if◌then◌else◌, Option, Some, None, ◌≡◌, refl, sym, subst, List, int_lt}
 use Rattle.std.specs.declared.cmp.Ordering.{Ordering}
 use Rattle.scalar_value.specs.declared.value.Value.{Value}
 use Rattle.scalar_value.specs.declared.value.Value.TheVariants as cell
@@ -11,7 +11,6 @@ use Rattle.scalar_value.specs.Numbers.{as_int, as_dec, is_int, is_dec, unless_ze
 use Rattle.scalar_value.specs.Order.{is_of_type, is_day, number_of}
 use Rattle.scalar_value.specs.Truths.{is_missing, is_true, is_false}
 use Rattle.scalar_fns.specs.Days.{day_plus}
-use Rattle.na_expr.specs.declared.expr.TypeFault.{TypeFault}
 use Rattle.na_expr.specs.Types.{joined, number_type, quotient_type, sum_type, difference_type, truths_type, texts_type, signed_type, truth_type, any_test_type, length_type, text_type, day_part_type, integer_type, decimal_type, any_text_type, is_kind, then_test, compared_type, carried_type, choice_type, both_tests, between_type, substr_type}
 use Rattle.na_expr.specs.Operators.{negated, absolute, on_numbers, added, taken_away, compared, negation, both_true, either_true, between, carried, chosen, text_length, on_text, part_of, on_texts, on_day, to_integer, to_decimal, to_text, in_calendar, as_day}
 

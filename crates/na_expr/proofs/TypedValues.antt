@@ -1,6 +1,6 @@
 -- The value of a typed expression is of its type.
-use Rattle.std.proofs.Common.{ℕ, zero, suc, Bool, true, false, ◌&&◌, if◌then◌else◌, Option, Some, None, Result, Ok, Err, ◌≡◌, refl, sym, ap, ap₂, subst, ◌∙◌, List, [], ◌∷◌, map, fold, unwrap_or, slice_get, IsTrue, ◌==◌}
-use Rattle.std.specs.List.{find, list_any, flat_map, starts_with, ends_with}
+use Rattle.std.proofs.Common.{ℕ, zero, suc, Bool, true, false, ◌&&◌, if◌then◌else◌, Option, Some, None, Result, Ok, Err, ◌≡◌, refl, sym, ap, subst, List, [], ◌∷◌, map, fold, unwrap_or, slice_get, ◌==◌}
+use Rattle.std.specs.List.{starts_with, ends_with}
 use Rattle.std.specs.Ordering.{is_eq, is_ne, is_lt, is_le, is_gt, is_ge}
 use Rattle.std.specs.Char.{to_ascii_uppercase, to_ascii_lowercase}
 use Rattle.scalar_value.specs.declared.value.Value.{Value}
@@ -9,7 +9,7 @@ use Rattle.scalar_value.specs.declared.value.ColType.{ColType}
 use Rattle.scalar_value.specs.declared.value.ColType.TheVariants.{Int, Dec, Chr, Date, Lgl}
 use Rattle.scalar_value.specs.declared.arithmetic.NumOp.TheVariants as op
 use Rattle.scalar_value.specs.Order.{is_of_type}
-use Rattle.scalar_value.specs.Truths.{is_there, is_true}
+use Rattle.scalar_value.specs.Truths.{is_true}
 use Rattle.scalar_fns.specs.Days.{year_of, month_of, month_day_of, wday_of}
 use Rattle.row_table.specs.declared.field.Field.{Field}
 use Rattle.row_table.specs.Tables.{fits_row}
@@ -19,7 +19,7 @@ use Rattle.na_expr.specs.declared.expr.ExprFn.{ExprFn}
 use Rattle.na_expr.specs.declared.expr.ExprFn.TheVariants as call
 use Rattle.na_expr.specs.declared.expr.Expr.{Expr}
 use Rattle.na_expr.specs.declared.expr.Expr.TheOpen.{Expr-F, Col, Lit, Call}
-use Rattle.na_expr.specs.declared.expr.Expr.TheFolds.{fold-Expr, fold-roll-Expr, map-Expr, ind-Expr}
+use Rattle.na_expr.specs.declared.expr.Expr.TheFolds.{fold-roll-Expr, map-Expr, ind-Expr}
 use Rattle.na_expr.specs.declared.expr.Expr.TheViews.{roll-Expr}
 use Rattle.na_expr.specs.Evaluation.{val, step_value, call_value, of_one, of_two, of_three}
 use Rattle.na_expr.specs.Operators.{first_case, first_there, carried, among, pasted}

@@ -1,5 +1,5 @@
 -- The value of an expression on a row.
-use Rattle.std.specs.Prelude.{ℕ, nat_eq, List, [], ◌∷◌, map, slice_get, unwrap_or, Bool, true, false}
+use Rattle.std.specs.Prelude.{nat_eq, List, [], ◌∷◌, map, slice_get, unwrap_or, Bool, true, false}
 use Rattle.std.specs.List.{starts_with, ends_with}
 use Rattle.std.specs.declared.cmp.Ordering.{Ordering}
 use Rattle.std.specs.Ordering.{is_eq, is_ne, is_lt, is_le, is_gt, is_ge}

@@ -1,11 +1,10 @@
 -- The values of the operators and row functions on values. Where not said otherwise a missing operand gives a missing value,
 -- and so does an operand of a type that the operator does not take.
-use Rattle.std.specs.Prelude.{ℕ, ◌+◌, ◌/◌, nat_eq, ℤ, pos, neg_ℤ, ◌-ℤ◌, ◌*ℤ◌, int_lt, int_div, Bool, true, false, not, ◌||◌, ◌&&◌, if◌then◌else◌, Option, List, [], ◌∷◌, map, filter, find, unwrap_or}
+use Rattle.std.specs.Prelude.{ℕ, ℤ, pos, neg_ℤ, ◌-ℤ◌, int_lt, int_div, Bool, true, false, not, ◌||◌, ◌&&◌, if◌then◌else◌, Option, List, [], ◌∷◌, find, unwrap_or}
 use Rattle.std.specs.Option.{option_map_or}
-use Rattle.std.specs.List.{list_any, flat_map, starts_with, ends_with}
-use Rattle.std.specs.Ordering.{int_cmp, is_eq, is_ne, is_lt, is_le, is_gt, is_ge}
+use Rattle.std.specs.List.{list_any, flat_map}
+use Rattle.std.specs.Ordering.{int_cmp, is_eq, is_le, is_ge}
 use Rattle.std.specs.declared.cmp.Ordering.{Ordering}
-use Rattle.std.specs.Char.{to_ascii_uppercase, to_ascii_lowercase}
 use Rattle.scalar_value.specs.declared.value.Value.{Value}
 use Rattle.scalar_value.specs.declared.value.Value.TheVariants.{Missing, Int, Dec, Chr, Day, Lgl}
 use Rattle.scalar_value.specs.declared.value.ColType.{ColType}
@@ -16,7 +15,7 @@ use Rattle.scalar_value.specs.Decimals.{million}
 use Rattle.scalar_value.specs.Numbers.{as_int, as_dec, num_value}
 use Rattle.scalar_value.specs.Order.{number_of, value_cmp, is_day, truth_number}
 use Rattle.scalar_value.specs.Truths.{is_missing, is_there, is_true, is_false}
-use Rattle.scalar_fns.specs.Days.{day_plus, year_of, month_of, month_day_of, wday_of}
+use Rattle.scalar_fns.specs.Days.{day_plus}
 use Rattle.scalar_fns.specs.Texts.{char_count, part_of_text}
 use Rattle.scalar_fns.specs.Written.{written, is_value}
 

@@ -1,16 +1,17 @@
 ghost use Rattle.std.specs.Prelude.{◌≡◌, List, [], ◌∷◌, ◌++◌, map, drop, unwrap_or, slice_get, pos, IfOk, OnOk, true, false};
 ghost use Rattle.std.specs.List.{list_any};
 ghost use Rattle.scalar_value.specs.Truths.{is_true as true_value};
+ghost use Rattle.na_expr.specs.Holding.{held_value};
 ghost use Rattle.na_expr.specs.Evaluation.{val, call_value, takes_list as is_list_function, is_day_part, is_text_function, is_text_test, is_comparison, test_of};
 ghost use Rattle.scalar_value.specs.Numbers.{as_int};
 ghost use Rattle.scalar_fns.specs.Written.{written};
 ghost use Rattle.na_expr.specs.Operators.{in_calendar, is_same as same, among, first_case, first_there, pasted, carried as carried_value, compared, between, chosen, part_of, to_text as text_value};
 
 use crate::expr::{Expr, ExprFn};
+use crate::held::{Held, carried, owned, value_of};
 use crate::operators::{
-    absolute, added, both_true, carried, either_true, is_calendar_day, is_false, is_missing,
-    is_same, is_true, is_value, negated, negation, on_numbers, order, taken_away, to_decimal,
-    to_integer,
+    absolute, added, both_true, either_true, is_calendar_day, is_false, is_missing, is_same,
+    is_true, is_value, negated, negation, on_numbers, order, taken_away, to_decimal, to_integer,
 };
 use row_table::Row;
 use scalar_fns::{chars, day_of, lower, month, substr, upper, wday, write_value, year};
@@ -197,58 +198,77 @@ fn part_of_text(alloc: Global, v: &Value, from: &Value, to: &Value) -> Mem<Value
 }
 
 /// The first value where the condition is TRUE, and the second where it is FALSE.
-fn choose(kind: ColType, condition: &Value, a: Value, b: Value) -> Value
-    ensures { result ≡ chosen kind condition.now a b }
+fn choose<'a>(kind: ColType, condition: &Value, a: Held<'a>, b: Held<'a>) -> Held<'a>
+    ensures { held_value result ≡ chosen kind condition.now (held_value a.entry) (held_value b.entry) }
 {
     if is_true(condition) {
         carried(kind, a)
     } else if is_false(condition) {
         carried(kind, b)
     } else {
-        Value::Missing
+        Held::Made(Value::Missing)
     }
 }
 
 /// The value of a function of three values.
-fn three(alloc: Global, function: ExprFn, a: Value, b: Value, c: Value) -> Mem<Value>
+fn three<'a>(
+    alloc: Global,
+    function: ExprFn,
+    a: Held<'a>,
+    b: Held<'a>,
+    c: Held<'a>,
+) -> Mem<Held<'a>>
     requires { is_list_function function ≡ false }
-    ensures { IfOk result (λ v. v ≡ call_value function (a ∷ b ∷ c ∷ [])) }
+    ensures { IfOk result (λ v. held_value v ≡ call_value function (held_value a.entry ∷ held_value b.entry ∷ held_value c.entry ∷ [])) }
 {
     match function {
-        ExprFn::IfElse(kind) => Ok(choose(kind, &a, b, c)),
-        ExprFn::Between => Ok(is_between(&a, &b, &c)),
-        ExprFn::Substr => part_of_text(alloc, &a, &b, &c),
-        _ => Ok(Value::Missing),
+        ExprFn::IfElse(kind) => Ok(choose(kind, value_of(&a), b, c)),
+        ExprFn::Between => Ok(Held::Made(is_between(value_of(&a), value_of(&b), value_of(&c)))),
+        ExprFn::Substr => Ok(Held::Made(part_of_text(
+            alloc,
+            value_of(&a),
+            value_of(&b),
+            value_of(&c),
+        )?)),
+        _ => Ok(Held::Made(Value::Missing)),
     }
 }
 
 /// The value of a column, and a missing value where there is none.
-fn column_value(row: &Row, at: u32) -> Mem<Value>
-    ensures { IfOk result (λ v. v ≡ unwrap_or (slice_get row.now at) Value.Missing) }
+fn column_value(row: &Row, at: u32) -> Held<'_>
+    ensures { held_value result ≡ unwrap_or (slice_get row.now at) Value.Missing }
 {
     match row.get(at as usize) {
-        Some(value) => value.copy(),
-        None => Ok(Value::Missing),
+        Some(value) => Held::There(value),
+        None => Held::Made(Value::Missing),
     }
 }
 
-#[cycle(eval)]
 /// The value of an expression on a row. Where no memory is left for a text it answers so; else it always gives a value:
-/// a part of another type than its operator takes, and a column that is not there, count as missing.
+/// a part of another type than its operator takes, and a column that is not there, count as missing. Texts that stand in
+/// the row or in the expression are read where they stand: only a text that is made, or that is the value, takes memory.
 pub fn eval_row(alloc: Global, e: &Expr, row: &Row) -> Mem<Value>
     ensures { IfOk result (λ v. v ≡ val row.now e.now) }
 {
+    owned(eval(alloc, e, row)?)
+}
+
+#[cycle(eval)]
+/// The value of an expression, where it stands or made.
+fn eval<'a>(alloc: Global, e: &'a Expr, row: &'a Row) -> Mem<Held<'a>>
+    ensures { IfOk result (λ v. held_value v ≡ val row.now e.now) }
+{
     match e {
-        Expr::Col(at) => column_value(row, *at),
-        Expr::Lit(value, _) => value.copy(),
+        Expr::Col(at) => Ok(column_value(row, *at)),
+        Expr::Lit(value, _) => Ok(Held::There(value)),
         Expr::Call(function, args) => eval_args(alloc, *function, args.as_slice(), row),
     }
 }
 
 #[cycle(eval)]
 /// The value of a call.
-fn eval_args(alloc: Global, function: ExprFn, args: &[Expr], row: &Row) -> Mem<Value>
-    ensures { IfOk result (λ v. v ≡ call_value function (map (val row.now) args.now)) }
+fn eval_args<'a>(alloc: Global, function: ExprFn, args: &'a [Expr], row: &'a Row) -> Mem<Held<'a>>
+    ensures { IfOk result (λ v. held_value v ≡ call_value function (map (val row.now) args.now)) }
 {
     match function {
         ExprFn::IsIn => eval_in(alloc, args, row),
@@ -261,38 +281,38 @@ fn eval_args(alloc: Global, function: ExprFn, args: &[Expr], row: &Row) -> Mem<V
 
 #[cycle(eval)]
 /// The value of a call of a function of one to three values.
-fn eval_call(alloc: Global, function: ExprFn, args: &[Expr], row: &Row) -> Mem<Value>
+fn eval_call<'a>(alloc: Global, function: ExprFn, args: &'a [Expr], row: &'a Row) -> Mem<Held<'a>>
     requires { is_list_function function ≡ false }
-    ensures { IfOk result (λ v. v ≡ call_value function (map (val row.now) args.now)) }
+    ensures { IfOk result (λ v. held_value v ≡ call_value function (map (val row.now) args.now)) }
 {
     match args {
         [a] => {
-            let a = eval_row(alloc, a, row)?;
-            one(alloc, function, &a)
+            let a = eval(alloc, a, row)?;
+            Ok(Held::Made(one(alloc, function, value_of(&a))?))
         }
         [a, b] => {
-            let (a, b) = (eval_row(alloc, a, row)?, eval_row(alloc, b, row)?);
-            Ok(two(function, &a, &b))
+            let (a, b) = (eval(alloc, a, row)?, eval(alloc, b, row)?);
+            Ok(Held::Made(two(function, value_of(&a), value_of(&b))))
         }
         [a, b, c] => {
-            let (a, b) = (eval_row(alloc, a, row)?, eval_row(alloc, b, row)?);
-            three(alloc, function, a, b, eval_row(alloc, c, row)?)
+            let (a, b) = (eval(alloc, a, row)?, eval(alloc, b, row)?);
+            three(alloc, function, a, b, eval(alloc, c, row)?)
         }
-        [] => Ok(Value::Missing),
-        [_, _, _, _, ..] => Ok(Value::Missing),
+        [] => Ok(Held::Made(Value::Missing)),
+        [_, _, _, _, ..] => Ok(Held::Made(Value::Missing)),
     }
 }
 
 #[cycle(eval)]
 /// Whether one of the literals behind the first argument equals it.
-fn eval_in(alloc: Global, args: &[Expr], row: &Row) -> Mem<Value>
-    ensures { IfOk result (λ v. v ≡ among (map (val row.now) args.now)) }
+fn eval_in<'a>(alloc: Global, args: &'a [Expr], row: &'a Row) -> Mem<Held<'a>>
+    ensures { IfOk result (λ v. held_value v ≡ among (map (val row.now) args.now)) }
 {
     if args.is_empty() {
-        return Ok(Value::Lgl(false));
+        return Ok(Held::Made(Value::Lgl(false)));
     }
-    let x = eval_row(alloc, &args[0], row)?;
-    Ok(Value::Lgl(has_same(alloc, &x, args, row)?))
+    let x = eval(alloc, &args[0], row)?;
+    Ok(Held::Made(Value::Lgl(has_same(alloc, value_of(&x), args, row)?)))
 }
 
 #[cycle(eval)]
@@ -313,7 +333,8 @@ fn has_same(alloc: Global, x: &Value, args: &[Expr], row: &Row) -> Mem<bool>
 fn is_equal(alloc: Global, x: &Value, literal: &Expr, row: &Row) -> Mem<bool>
     ensures { IfOk result (λ b. b ≡ same x.now (val row.now literal.now)) }
 {
-    Ok(is_same(x, &eval_row(alloc, literal, row)?))
+    let value = eval(alloc, literal, row)?;
+    Ok(is_same(x, value_of(&value)))
 }
 
 #[cycle(eval)]
@@ -321,47 +342,49 @@ fn is_equal(alloc: Global, x: &Value, literal: &Expr, row: &Row) -> Mem<bool>
 fn holds(alloc: Global, condition: &Expr, row: &Row) -> Mem<bool>
     ensures { IfOk result (λ b. b ≡ true_value (val row.now condition.now)) }
 {
-    Ok(is_true(&eval_row(alloc, condition, row)?))
+    let value = eval(alloc, condition, row)?;
+    Ok(is_true(value_of(&value)))
 }
 
 #[cycle(eval)]
 /// The value behind the first condition that is TRUE, else the default.
-fn eval_cases(alloc: Global, kind: ColType, args: &[Expr], row: &Row) -> Mem<Value>
-    ensures { IfOk result (λ v. v ≡ first_case kind (map (val row.now) args.now)) }
+fn eval_cases<'a>(alloc: Global, kind: ColType, args: &'a [Expr], row: &'a Row) -> Mem<Held<'a>>
+    ensures { IfOk result (λ v. held_value v ≡ first_case kind (map (val row.now) args.now)) }
 {
     for at in 0..args.len() / 2 {
         if holds(alloc, &args[2 * at], row)? {
-            return Ok(carried(kind, eval_row(alloc, &args[2 * at + 1], row)?));
+            return Ok(carried(kind, eval(alloc, &args[2 * at + 1], row)?));
         }
     }
     if args.len() % 2 == 0 {
-        return Ok(Value::Missing);
+        return Ok(Held::Made(Value::Missing));
     }
-    Ok(carried(kind, eval_row(alloc, &args[args.len() - 1], row)?))
+    Ok(carried(kind, eval(alloc, &args[args.len() - 1], row)?))
 }
 
 #[cycle(eval)]
 /// The first value that is not missing.
-fn eval_coalesce(alloc: Global, kind: ColType, args: &[Expr], row: &Row) -> Mem<Value>
-    ensures { IfOk result (λ v. v ≡ carried_value kind (first_there (map (val row.now) args.now))) }
+fn eval_coalesce<'a>(alloc: Global, kind: ColType, args: &'a [Expr], row: &'a Row) -> Mem<Held<'a>>
+    ensures { IfOk result (λ v. held_value v ≡ carried_value kind (first_there (map (val row.now) args.now))) }
 {
     for arg in args {
-        let value = eval_row(alloc, arg, row)?;
-        if !is_missing(&value) {
+        let value = eval(alloc, arg, row)?;
+        if !is_missing(value_of(&value)) {
             return Ok(carried(kind, value));
         }
     }
-    Ok(carried(kind, Value::Missing))
+    Ok(carried(kind, Held::Made(Value::Missing)))
 }
 
 #[cycle(eval)]
 /// The value texts one behind the other.
-fn eval_paste(alloc: Global, args: &[Expr], row: &Row) -> Mem<Value>
-    ensures { IfOk result (λ v. v ≡ pasted (map (val row.now) args.now)) }
+fn eval_paste<'a>(alloc: Global, args: &'a [Expr], row: &'a Row) -> Mem<Held<'a>>
+    ensures { IfOk result (λ v. held_value v ≡ pasted (map (val row.now) args.now)) }
 {
     let mut text = Text::empty(alloc);
     for arg in args {
-        push_value(&eval_row(alloc, arg, row)?, &mut text)?;
+        let value = eval(alloc, arg, row)?;
+        push_value(value_of(&value), &mut text)?;
     }
-    Ok(Value::Chr(text))
+    Ok(Held::Made(Value::Chr(text)))
 }

@@ -3,6 +3,7 @@
 
 mod eval;
 mod expr;
+mod held;
 mod laws;
 mod operators;
 mod types;

@@ -5,7 +5,7 @@ ghost use Rattle.scalar_value.specs.Order.{is_day};
 ghost use Rattle.scalar_fns.specs.Days.{day_plus};
 ghost use Rattle.scalar_fns.specs.Written.{is_value as value_of_column};
 ghost use Rattle.scalar_value.specs.Truths.{is_missing as missing, is_true as true_value, is_false as false_value};
-ghost use Rattle.na_expr.specs.Operators.{negated as negative_of, absolute as size_of, as_day, is_number as number, on_numbers as of_numbers, added as sum_of, taken_away as difference_of, order_of, is_same as same, negation as opposite_of, both_true as conjunction, either_true as disjunction, carried as carried_value, to_decimal as decimal_of, to_integer as integer_of};
+ghost use Rattle.na_expr.specs.Operators.{negated as negative_of, absolute as size_of, as_day, is_number as number, on_numbers as of_numbers, added as sum_of, taken_away as difference_of, order_of, is_same as same, negation as opposite_of, both_true as conjunction, either_true as disjunction, to_decimal as decimal_of, to_integer as integer_of};
 
 use scalar_fns::day_add;
 use scalar_value::{ColType, Dec6, NumOp, Value, num, num_cmp};
@@ -178,16 +178,6 @@ pub fn is_same(a: &Value, b: &Value) -> bool
     ensures { result ≡ same a.now b.now }
 {
     order(a, b) == Ordering::Equal
-}
-
-/// A chosen value as one of the type that the choice has.
-pub fn carried(kind: ColType, v: Value) -> Value
-    ensures { result ≡ carried_value kind v }
-{
-    match (kind, &v) {
-        (ColType::Dec, Value::Int(_)) => to_decimal(&v),
-        _ => v,
-    }
 }
 
 /// A number as a decimal.

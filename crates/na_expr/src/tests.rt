@@ -20,8 +20,12 @@ fn literal(v: Value) -> Expr {
     Expr::Lit(v, kind)
 }
 
-/// The value of a word: `NA`, a truth value, a whole number, a decimal with a point, a date, or else a text.
+/// The value of a word: a text behind a quote, `NA`, a truth value, a whole number, a decimal with a point, a date, or else
+/// a text.
 fn value(alloc: Global, word: &str) -> Mem<Value> {
+    if let Some(text) = word.strip_prefix('\'') {
+        return Ok(Value::Chr(Text::of(alloc, text)?));
+    }
     match word {
         "NA" => return Ok(Value::Missing),
         "TRUE" => return Ok(Value::Lgl(true)),
@@ -38,74 +42,160 @@ fn value(alloc: Global, word: &str) -> Mem<Value> {
     }
 }
 
-fn called(alloc: Global, function: ExprFn, words: [&str; 4]) -> Mem<Value> {
+/// The operator of a word, and none of another word.
+fn operator_named(word: &str) -> Option<ExprFn> {
+    Some(match word {
+        "neg" => ExprFn::Neg,
+        "add" => ExprFn::Add,
+        "sub" => ExprFn::Sub,
+        "mul" => ExprFn::Mul,
+        "div" => ExprFn::Div,
+        "floor_div" => ExprFn::FloorDiv,
+        "mod" => ExprFn::Mod,
+        "eq" => ExprFn::Eq,
+        "ne" => ExprFn::Ne,
+        "lt" => ExprFn::Lt,
+        "le" => ExprFn::Le,
+        "gt" => ExprFn::Gt,
+        "ge" => ExprFn::Ge,
+        "not" => ExprFn::Not,
+        "and" => ExprFn::And,
+        "or" => ExprFn::Or,
+        "is_in" => ExprFn::IsIn,
+        _ => return None,
+    })
+}
+
+/// The operator or function of a word.
+fn function_named(word: &str) -> ExprFn {
+    if let Some(operator) = operator_named(word) {
+        return operator;
+    }
+    match word {
+        "is_na" => ExprFn::IsNa,
+        "if_else" => ExprFn::IfElse(ColType::Int),
+        "case_when" => ExprFn::CaseWhen(ColType::Int),
+        "case_when_dec" => ExprFn::CaseWhen(ColType::Dec),
+        "coalesce_dec" => ExprFn::Coalesce(ColType::Dec),
+        "between" => ExprFn::Between,
+        "abs" => ExprFn::Abs,
+        "nchar" => ExprFn::NChar,
+        "substr" => ExprFn::Substr,
+        "toupper" => ExprFn::ToUpper,
+        "tolower" => ExprFn::ToLower,
+        "starts_with" => ExprFn::StartsWith,
+        "ends_with" => ExprFn::EndsWith,
+        "paste0" => ExprFn::Paste0,
+        "year" => ExprFn::Year,
+        "month" => ExprFn::Month,
+        "day" => ExprFn::Day,
+        "wday" => ExprFn::Wday,
+        "as_integer" => ExprFn::AsInteger,
+        "as_numeric" => ExprFn::AsNumeric,
+        _ => ExprFn::AsCharacter,
+    }
+}
+
+/// The value that a row's call gives on the words before `=`.
+fn called(alloc: Global, row: &str) -> Mem<Value> {
+    let mut words = row.split_whitespace();
+    let function = function_named(words.next().unwrap_or(""));
     let mut args = Seq::new(alloc);
     for word in words {
-        if !word.is_empty() {
-            args.push(literal(value(alloc, word)?))?;
+        if word == "=" {
+            break;
         }
+        args.push(literal(value(alloc, word)?))?;
     }
     eval_row(alloc, &Expr::Call(function, args), &Seq::new(alloc))
 }
 
+/// Each row: an operator or function, its arguments, and its value.
+const ROWS: &str = "
+neg -9223372036854775808 = NA
+neg 5 = -5
+add 9223372036854775807 1 = NA
+add 1 0.5 = 1.5
+sub -9223372036854775808 1 = NA
+mul -0.000001 0.5 = -0.000001
+mul 0.000001 0.4 = 0.0
+div 2 3 = 0.666667
+div 1 0 = NA
+floor_div 7 -2 = -4
+floor_div 7 0 = NA
+mod 7 -2 = -1
+mod -7 3 = 2
+mod -7 2 = 1
+mod 7 0 = NA
+add 9999-12-31 1 = NA
+add 1 2024-02-28 = 2024-02-29
+sub 2024-03-01 1 = 2024-02-29
+sub 2024-03-01 2024-02-28 = 2
+sub 0000-01-01 1 = NA
+eq NA NA = NA
+eq 1 1.0 = TRUE
+ne 1 1.0 = FALSE
+lt 1 1.5 = TRUE
+le 2024-02-29 2024-02-28 = FALSE
+gt TRUE FALSE = TRUE
+ge b a = TRUE
+not NA = NA
+not TRUE = FALSE
+and NA FALSE = FALSE
+and NA TRUE = NA
+or NA TRUE = TRUE
+or NA FALSE = NA
+is_in NA 10 NA = TRUE
+is_in NA 10 = FALSE
+is_in 1 2 1.0 = TRUE
+is_na NA = TRUE
+is_na 1 = FALSE
+if_else NA 1 2 = NA
+if_else FALSE 1 2 = 2
+case_when FALSE 1 TRUE 2 = 2
+case_when_dec NA 1 0.5 = 0.5
+case_when FALSE 1 = NA
+coalesce_dec NA 2 1.5 = 2.0
+coalesce_dec 9223372036854775807 1.5 = NA
+between 2 1 NA = NA
+between 0 1 NA = FALSE
+abs -1.5 = 1.5
+abs -9223372036854775808 = NA
+nchar aé€b = 4
+substr abc 0 2 = ab
+substr aé€b 3 99 = €b
+toupper aéZ1 = AéZ1
+tolower AÉz1 = aÉz1
+starts_with abc ab = TRUE
+ends_with abc ab = FALSE
+paste0 a NA 1.50 = aNA1.5
+year 2024-02-29 = 2024
+month 2024-02-29 = 2
+day 2024-02-29 = 29
+wday 2024-03-03 = 1
+as_integer -1.9 = -1
+as_integer TRUE = 1
+as_numeric 7 = 7.0
+as_numeric 9223372036854775807 = NA
+as_character 1.50 = '1.5
+as_character 2024-02-29 = '2024-02-29
+as_character NA = NA
+";
+
 #[test]
 fn values(rt: HostRuntime) -> Result<(), Fail> {
-    let rows = [
-        (ExprFn::Neg, ["-9223372036854775808", "", "", ""], "NA"),
-        (ExprFn::Add, ["9999-12-31", "1", "", ""], "NA"),
-        (ExprFn::Add, ["1", "2024-02-28", "", ""], "2024-02-29"),
-        (ExprFn::Sub, ["2024-03-01", "1", "", ""], "2024-02-29"),
-        (ExprFn::Sub, ["2024-03-01", "2024-02-28", "", ""], "2"),
-        (ExprFn::FloorDiv, ["7", "-2", "", ""], "-4"),
-        (ExprFn::Mod, ["7", "-2", "", ""], "-1"),
-        (ExprFn::Div, ["2", "3", "", ""], "0.666667"),
-        (ExprFn::Lt, ["1", "1.5", "", ""], "TRUE"),
-        (ExprFn::Eq, ["NA", "NA", "", ""], "NA"),
-        (ExprFn::Ge, ["b", "a", "", ""], "TRUE"),
-        (ExprFn::Not, ["NA", "", "", ""], "NA"),
-        (ExprFn::And, ["NA", "FALSE", "", ""], "FALSE"),
-        (ExprFn::And, ["NA", "TRUE", "", ""], "NA"),
-        (ExprFn::Or, ["NA", "TRUE", "", ""], "TRUE"),
-        (ExprFn::Or, ["NA", "FALSE", "", ""], "NA"),
-        (ExprFn::IsIn, ["NA", "10", "NA", ""], "TRUE"),
-        (ExprFn::IsIn, ["NA", "10", "", ""], "FALSE"),
-        (ExprFn::IsNa, ["NA", "", "", ""], "TRUE"),
-        (ExprFn::IfElse(ColType::Int), ["NA", "1", "2", ""], "NA"),
-        (
-            ExprFn::CaseWhen(ColType::Int),
-            ["FALSE", "1", "TRUE", "2"],
-            "2",
-        ),
-        (
-            ExprFn::CaseWhen(ColType::Dec),
-            ["NA", "1", "0.5", ""],
-            "0.5",
-        ),
-        (ExprFn::CaseWhen(ColType::Int), ["FALSE", "1", "", ""], "NA"),
-        (
-            ExprFn::Coalesce(ColType::Dec),
-            ["NA", "2", "1.5", ""],
-            "2.0",
-        ),
-        (ExprFn::Between, ["2", "1", "NA", ""], "NA"),
-        (ExprFn::Between, ["0", "1", "NA", ""], "FALSE"),
-        (ExprFn::Abs, ["-1.5", "", "", ""], "1.5"),
-        (ExprFn::Abs, ["-9223372036854775808", "", "", ""], "NA"),
-        (ExprFn::NChar, ["aé€b", "", "", ""], "4"),
-        (ExprFn::Substr, ["abc", "0", "2", ""], "ab"),
-        (ExprFn::ToUpper, ["aéZ1", "", "", ""], "AéZ1"),
-        (ExprFn::StartsWith, ["abc", "ab", "", ""], "TRUE"),
-        (ExprFn::EndsWith, ["abc", "ab", "", ""], "FALSE"),
-        (ExprFn::Paste0, ["a", "NA", "1.50", ""], "aNA1.5"),
-        (ExprFn::Month, ["2024-02-29", "", "", ""], "2"),
-        (ExprFn::Wday, ["2024-03-03", "", "", ""], "1"),
-        (ExprFn::AsInteger, ["-1.9", "", "", ""], "-1"),
-        (ExprFn::AsNumeric, ["7", "", "", ""], "7.0"),
-    ];
-    for (function, words, expected) in rows {
-        let given = called(rt.alloc(), function, words)?;
-        assert_eq!(rt; given, value(rt.alloc(), expected)?, "{expected}");
+    let mut count = 0u32;
+    for row in ROWS.lines() {
+        if let Some(expected) = row.split_whitespace().last() {
+            assert_eq!(rt;
+                called(rt.alloc(), row)?,
+                value(rt.alloc(), expected)?,
+                "{row}"
+            );
+            count = count.saturating_add(1);
+        }
     }
+    assert_eq!(rt; count, 68);
     Ok(())
 }
 

@@ -1,5 +1,5 @@
 -- The first code points of a text are a front of its bytes.
-use Rattle.std.proofs.Common.{ℕ, zero, suc, ◌+◌, ◌-◌, Bool, true, false, if◌then◌else◌, ◌≡◌, refl, sym, ap, ap₂, ◌∙◌, List, [], ◌∷◌, length, take, drop, ℤ}
+use Rattle.std.proofs.Common.{ℕ, zero, suc, ◌+◌, ◌-◌, Bool, true, false, if◌then◌else◌, ◌≡◌, refl, ap, ap₂, ◌∙◌, List, [], ◌∷◌, length, take, drop, ℤ}
 use Rattle.scalar_fns.specs.Texts.{begins_char, first_chars, without_chars, place_from, place_to, part_of_text}
 
 -- the first code points are the front of that length

@@ -1,5 +1,5 @@
 -- Dates and their days stand in one order.
-use Rattle.std.proofs.Common.{ℕ, ◌+◌, ◌<◌, ◌≤◌, nat_le, ℤ, pos, ◌<ℤ◌, Bool, true, false, ◌&&◌, if◌then◌else◌, ◌⊎◌, inl, inr, ◌↔◌, Option, Some, None, ◌≡◌, refl, sym, ap, subst, ◌∙◌, arith}
+use Rattle.std.proofs.Common.{ℕ, ◌<◌, ◌≤◌, ℤ, pos, ◌<ℤ◌, Bool, true, false, if◌then◌else◌, ◌⊎◌, inl, inr, Some, None, ◌≡◌, refl, sym, ap, subst, ◌∙◌, arith}
 use Rattle.std.proofs.lemmas.Bool.{cases_order}
 use Rattle.std.proofs.lemmas.Int.{ints}
 use Rattle.jiff_core.specs.Calendar.{days_in_month, days_from_civil, day_count, IsCivilDate}

@@ -1,7 +1,7 @@
 -- The bytes of digits are ASCII, and so is a front of them.
-use Rattle.std.proofs.Common.{ℕ, zero, suc, ◌+◌, ◌%◌, ◌<◌, Bool, true, false, ◌&&◌, nat_lt, ◌≡◌, refl, List, [], ◌∷◌, take, arith}
+use Rattle.std.proofs.Common.{ℕ, zero, suc, ◌+◌, ◌%◌, Bool, true, false, ◌&&◌, nat_lt, ◌≡◌, refl, List, [], ◌∷◌, take, arith}
 use Rattle.std.specs.List.{list_all}
-use Rattle.scalar_fns.specs.Written.{last_digit, six_places, without_end_zeros}
+use Rattle.scalar_fns.specs.Written.{six_places}
 
 small : (n : ℕ) → nat_lt (48 + n % 10) 128 ≡ true
 small n = grind arith

@@ -3,7 +3,6 @@ ghost use Rattle.std.specs.Char.{is_ascii_digit};
 ghost use Rattle.jiff_core.specs.Date.{epoch_day};
 ghost use Rattle.scalar_value.specs.Order.{is_day};
 ghost use Rattle.scalar_fns.specs.Days.{two_digits as number_of_two, year_of, month_of, month_day_of, wday_of, day_plus, day_of_date, day_of_text};
-
 ghost use Rattle.scalar_fns.specs.DayLaws.{DaysAreOrdered, EpochIsDayZero, HasDate};
 
 use jiff_core::civil::Date;

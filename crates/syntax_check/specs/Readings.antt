@@ -3,7 +3,7 @@ use Rattle.std.specs.Prelude.{◌≡◌, ℕ, List, length, Result, Ok, Err}
 use Rattle.scalar_value.specs.declared.memory.Or.TheVariants.{Fault}
 use Rattle.token_scan.specs.declared.token.Token.{Token}
 use Rattle.token_scan.specs.Tokens.{tokens_of}
-use Rattle.verb_syntax.specs.declared.tree.Script.{Script}
+use Rattle.syntax_tree.specs.declared.tree.Script.{Script}
 use Rattle.verb_syntax.specs.Parsing.{IsParsed}
 use Rattle.syntax_check.specs.declared.Reading.{Reading}
 use Rattle.syntax_check.specs.declared.Reading.TheVariants as reading

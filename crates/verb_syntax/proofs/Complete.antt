@@ -4,20 +4,21 @@ use Rattle.std.proofs.Common.{◌≡◌, ℕ, ◌<◌, ◌≤◌, List, ◌∷�
 use Rattle.token_scan.specs.declared.token.Token.{Token}
 use Rattle.token_scan.specs.declared.token.TokenKind.{TokenKind}
 use Rattle.token_scan.specs.declared.token.Oper.{Oper}
-use Rattle.verb_syntax.specs.declared.tree.Term.{Term}
-use Rattle.verb_syntax.specs.declared.tree.Call.{Call}
-use Rattle.verb_syntax.specs.declared.tree.Arg.{Arg}
-use Rattle.verb_syntax.specs.declared.tree.TermKind.{TermKind}
-use Rattle.verb_syntax.specs.declared.frame.Frame.{Frame}
-use Rattle.verb_syntax.specs.declared.state.Mode.{Mode}
-use Rattle.verb_syntax.specs.declared.state.State.{State}
-use Rattle.verb_syntax.specs.declared.state.Held.{Held}
-use Rattle.verb_syntax.specs.Trees.{term_of, call_of}
-use Rattle.verb_syntax.specs.Grammar.{binary_rule, left_rule, prefix_rule, IsOp, place}
-use Rattle.verb_syntax.specs.Levels.{need, takes_call}
-use Rattle.verb_syntax.specs.Machine.{◌>>=◌, state_of, want, held_of, pending_of, settle, held, placed, infix_step, prefix_step, operator_step, whole, argument, called, literal_in, oper_step, kind_step, step, run}
-use Rattle.verb_syntax.proofs.Basics.{leb_true, ltb_true, no_some}
-use Rattle.verb_syntax.proofs.Settles.{settle_held, settle_stays}
+use Rattle.syntax_tree.specs.declared.tree.Term.{Term}
+use Rattle.syntax_tree.specs.declared.tree.Call.{Call}
+use Rattle.syntax_tree.specs.declared.tree.Arg.{Arg}
+use Rattle.syntax_tree.specs.declared.tree.TermKind.{TermKind}
+use Rattle.syntax_steps.specs.declared.frame.Frame.{Frame}
+use Rattle.syntax_steps.specs.declared.state.Mode.{Mode}
+use Rattle.syntax_steps.specs.declared.state.State.{State}
+use Rattle.syntax_steps.specs.declared.state.Held.{Held}
+use Rattle.syntax_tree.specs.Trees.{term_of, call_of}
+use Rattle.syntax_steps.specs.Rules.{binary_rule, left_rule, prefix_rule}
+use Rattle.verb_syntax.specs.Grammar.{IsOp, place}
+use Rattle.syntax_steps.specs.Levels.{need, takes_call}
+use Rattle.syntax_steps.specs.Machine.{◌>>=◌, state_of, want, held_of, pending_of, settle, held, placed, infix_step, prefix_step, operator_step, whole, argument, called, literal_in, oper_step, kind_step, step, run}
+use Rattle.syntax_steps.proofs.Basics.{leb_true, ltb_true, no_some}
+use Rattle.syntax_steps.proofs.Settles.{settle_held, settle_stays}
 
 -- one step, and the steps behind it
 pub run_step : (token : Token) (ts : List Token) (state next : State) → step token state ≡ Some next

@@ -3,22 +3,23 @@ use Rattle.std.proofs.Common.{◌≡◌, ℕ, ◌≤◌, List, [], ◌∷◌, �
 use Rattle.token_scan.specs.declared.token.Token.{Token}
 use Rattle.token_scan.specs.declared.token.TokenKind.{TokenKind}
 use Rattle.token_scan.specs.declared.token.Oper.{Oper}
-use Rattle.verb_syntax.specs.declared.tree.Term.{Term}
-use Rattle.verb_syntax.specs.declared.tree.Call.{Call}
-use Rattle.verb_syntax.specs.declared.tree.Arg.{Arg}
-use Rattle.verb_syntax.specs.declared.tree.Pipe.{Pipe}
-use Rattle.verb_syntax.specs.declared.tree.Script.{Script}
-use Rattle.verb_syntax.specs.declared.frame.Frame.{Frame}
-use Rattle.verb_syntax.specs.declared.state.Mode.{Mode}
-use Rattle.verb_syntax.specs.declared.state.State.{State}
-use Rattle.verb_syntax.specs.declared.state.Held.{Held}
-use Rattle.verb_syntax.specs.Trees.{name_term, text_term, binary_term, unary_term, call_term, pipe_term, call_of, arg_of, pipe_of}
-use Rattle.verb_syntax.specs.Grammar.{binary_rule, prefix_rule, place}
-use Rattle.verb_syntax.specs.Levels.{need, takes_pipe, takes_call}
+use Rattle.syntax_tree.specs.declared.tree.Term.{Term}
+use Rattle.syntax_tree.specs.declared.tree.Call.{Call}
+use Rattle.syntax_tree.specs.declared.tree.Arg.{Arg}
+use Rattle.syntax_tree.specs.declared.tree.Pipe.{Pipe}
+use Rattle.syntax_tree.specs.declared.tree.Script.{Script}
+use Rattle.syntax_steps.specs.declared.frame.Frame.{Frame}
+use Rattle.syntax_steps.specs.declared.state.Mode.{Mode}
+use Rattle.syntax_steps.specs.declared.state.State.{State}
+use Rattle.syntax_steps.specs.declared.state.Held.{Held}
+use Rattle.syntax_tree.specs.Trees.{name_term, text_term, binary_term, unary_term, call_term, pipe_term, call_of, arg_of, pipe_of}
+use Rattle.syntax_steps.specs.Rules.{binary_rule, prefix_rule}
+use Rattle.verb_syntax.specs.Grammar.{place}
+use Rattle.syntax_steps.specs.Levels.{need, takes_pipe, takes_call}
 use Rattle.verb_syntax.specs.Lines.{is_line}
 use Rattle.verb_syntax.specs.Unfinished.{Opens}
-use Rattle.verb_syntax.specs.Machine.{◌>>=◌, state_of, held_of, settle, is_body, whole, called, close_value, step, run, finish}
-use Rattle.verb_syntax.proofs.Basics.{leb_true}
+use Rattle.syntax_steps.specs.Machine.{◌>>=◌, state_of, held_of, settle, is_body, whole, called, close_value, step, run, finish}
+use Rattle.syntax_steps.proofs.Basics.{leb_true}
 use Rattle.verb_syntax.proofs.Complete.{run_step}
 use Rattle.verb_syntax.proofs.Derived.{close_whole}
 use Rattle.verb_syntax.proofs.Sound.{Stands, args_need}

@@ -4,15 +4,16 @@ use Rattle.std.proofs.lemmas.Bool.Decides.{nat_tests}
 use Rattle.token_scan.specs.declared.token.Token.{Token}
 use Rattle.token_scan.specs.declared.token.TokenKind.{TokenKind}
 use Rattle.token_scan.specs.declared.token.Oper.{Oper}
-use Rattle.verb_syntax.specs.declared.tree.Term.{Term}
-use Rattle.verb_syntax.specs.declared.tree.Call.{Call}
-use Rattle.verb_syntax.specs.declared.tree.Arg.{Arg}
-use Rattle.verb_syntax.specs.declared.tree.TermKind.{TermKind}
-use Rattle.verb_syntax.specs.Grammar.{binary_rule, prefix_rule, IsOp, IsLabel, IsPipe, literal_of, Value, Calling, Args, Argument, Whole, Calls}
+use Rattle.syntax_tree.specs.declared.tree.Term.{Term}
+use Rattle.syntax_tree.specs.declared.tree.Call.{Call}
+use Rattle.syntax_tree.specs.declared.tree.Arg.{Arg}
+use Rattle.syntax_tree.specs.declared.tree.TermKind.{TermKind}
+use Rattle.syntax_steps.specs.Rules.{binary_rule, prefix_rule}
+use Rattle.verb_syntax.specs.Grammar.{IsOp, IsLabel, IsPipe, literal_of, Value, Calling, Args, Argument, Whole, Calls}
 use Rattle.verb_syntax.specs.Lines.{deeper}
 use Rattle.verb_syntax.specs.Operators.{ends_operand, is_counted, count_at, operators_from}
 use Rattle.verb_syntax.specs.Counting.{applied, applied_call, applied_args, applied_argument, applied_whole, applied_calls, CountsOperators}
-use Rattle.verb_syntax.proofs.Basics.{no_some}
+use Rattle.syntax_steps.proofs.Basics.{no_some}
 
 not_zero : (n : ℕ) → 1 ≤ n → eqb n 0 ≡ false
 not_zero n h = grind (arith, nat_tests)

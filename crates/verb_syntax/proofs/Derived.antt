@@ -4,22 +4,23 @@ use Rattle.std.proofs.lemmas.Option.{same_Some}
 use Rattle.token_scan.specs.declared.token.Token.{Token}
 use Rattle.token_scan.specs.declared.token.TokenKind.{TokenKind}
 use Rattle.token_scan.specs.declared.token.Oper.{Oper}
-use Rattle.verb_syntax.specs.declared.tree.Term.{Term}
-use Rattle.verb_syntax.specs.declared.tree.Call.{Call}
-use Rattle.verb_syntax.specs.declared.tree.Arg.{Arg}
-use Rattle.verb_syntax.specs.declared.tree.TermKind.{TermKind}
-use Rattle.verb_syntax.specs.declared.tree.TermKind.TheVariants as kind
-use Rattle.verb_syntax.specs.declared.frame.Frame.{Frame}
-use Rattle.verb_syntax.specs.declared.state.Mode.{Mode}
-use Rattle.verb_syntax.specs.declared.state.State.{State}
-use Rattle.verb_syntax.specs.declared.state.Held.{Held}
-use Rattle.verb_syntax.specs.declared.state.Pending.{Pending}
-use Rattle.verb_syntax.specs.Trees.{term_of, name_term, binary_term, unary_term, call_term, pipe_term, call_of, arg_of, pipe_of}
-use Rattle.verb_syntax.specs.Grammar.{binary_rule, left_rule, prefix_rule, IsOp, IsName, IsLabel, IsPipe, literal_of, place, Value, Calling, Args, Argument, Whole, Calls}
-use Rattle.verb_syntax.specs.Levels.{need, takes_pipe, takes_call}
-use Rattle.verb_syntax.specs.Machine.{◌>>=◌, state_of, want, held_of, pending_of, is_args, whole, argument, called, close_value, close_step, pipe_step, literal_in, kind_step, run}
-use Rattle.verb_syntax.proofs.Basics.{leb_true, eqb_true, no_some}
-use Rattle.verb_syntax.proofs.Settles.{left_ge, settle_held, settle_argument, settle_loosens}
+use Rattle.syntax_tree.specs.declared.tree.Term.{Term}
+use Rattle.syntax_tree.specs.declared.tree.Call.{Call}
+use Rattle.syntax_tree.specs.declared.tree.Arg.{Arg}
+use Rattle.syntax_tree.specs.declared.tree.TermKind.{TermKind}
+use Rattle.syntax_tree.specs.declared.tree.TermKind.TheVariants as kind
+use Rattle.syntax_steps.specs.declared.frame.Frame.{Frame}
+use Rattle.syntax_steps.specs.declared.state.Mode.{Mode}
+use Rattle.syntax_steps.specs.declared.state.State.{State}
+use Rattle.syntax_steps.specs.declared.state.Held.{Held}
+use Rattle.syntax_steps.specs.declared.state.Pending.{Pending}
+use Rattle.syntax_tree.specs.Trees.{term_of, name_term, binary_term, unary_term, call_term, pipe_term, call_of, arg_of, pipe_of}
+use Rattle.syntax_steps.specs.Rules.{binary_rule, left_rule, prefix_rule}
+use Rattle.verb_syntax.specs.Grammar.{IsOp, IsName, IsLabel, IsPipe, literal_of, place, Value, Calling, Args, Argument, Whole, Calls}
+use Rattle.syntax_steps.specs.Levels.{need, takes_pipe, takes_call}
+use Rattle.syntax_steps.specs.Machine.{◌>>=◌, state_of, want, held_of, pending_of, is_args, whole, argument, called, close_value, close_step, pipe_step, literal_in, kind_step, run}
+use Rattle.syntax_steps.proofs.Basics.{leb_true, eqb_true, no_some}
+use Rattle.syntax_steps.proofs.Settles.{left_ge, settle_held, settle_argument, settle_loosens}
 use Rattle.verb_syntax.proofs.Complete.{run_step, run_on, Reads, ReadsWhole, ReadsArgs, ReadsCall, whole_held, step_binary, step_prefix, step_paren, Literals, literal_as}
 
 text_reads : (what : TermKind) (text : List ℕ) (at : ℕ) (fs : List Frame) → need fs ≤ 10 → kind.Str text ≡ what

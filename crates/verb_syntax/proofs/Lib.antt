@@ -1,11 +1,8 @@
-pub mod Basics
-pub mod Settles
 pub mod Complete
 pub mod Derived
 pub mod Sound
 pub mod Steps
 pub mod Scripts
 pub mod Completing
-pub mod Kept
 pub mod Parses
 pub mod Counted

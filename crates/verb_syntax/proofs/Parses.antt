@@ -6,33 +6,33 @@ use Rattle.std.proofs.lemmas.Option.{same_Some, option_and_then_some}
 use Rattle.token_scan.specs.declared.token.Token.{Token}
 use Rattle.token_scan.specs.declared.token.TokenKind.{TokenKind}
 use Rattle.token_scan.specs.declared.token.Oper.{Oper}
-use Rattle.verb_syntax.specs.declared.tree.Script.{Script}
-use Rattle.verb_syntax.specs.declared.tree.SyntaxFault.{SyntaxFault}
-use Rattle.verb_syntax.specs.declared.tree.SyntaxKind.{SyntaxKind}
-use Rattle.verb_syntax.specs.declared.frame.Frame.{Frame}
-use Rattle.verb_syntax.specs.declared.state.Mode.{Mode}
-use Rattle.verb_syntax.specs.declared.state.State.{State}
+use Rattle.syntax_tree.specs.declared.tree.Script.{Script}
+use Rattle.verb_syntax.specs.declared.fault.SyntaxFault.{SyntaxFault}
+use Rattle.verb_syntax.specs.declared.fault.SyntaxKind.{SyntaxKind}
+use Rattle.syntax_steps.specs.declared.frame.Frame.{Frame}
+use Rattle.syntax_steps.specs.declared.state.Mode.{Mode}
+use Rattle.syntax_steps.specs.declared.state.State.{State}
 use Rattle.verb_syntax.specs.declared.reader.Reader.{Reader}
 use Rattle.verb_syntax.specs.Grammar.{Seps, Statements, Derives}
 use Rattle.verb_syntax.specs.Lines.{is_passed, deeper, goes_on, unpassed, read, DerivesScript}
-use Rattle.verb_syntax.specs.Levels.{levels}
+use Rattle.syntax_steps.specs.Levels.{levels}
 use Rattle.verb_syntax.specs.Unfinished.{Opens}
 use Rattle.verb_syntax.specs.Operators.{operators, operators_from, ends_operand, count_at}
 use Rattle.verb_syntax.specs.Parsing.{Begins, IsDeep, AllShallow, IsTooDeep, IsUnfinished, IsFirstFault, IsParsed, DeriveOne}
 use Rattle.scalar_value.specs.declared.memory.Or.{Or}
 use Rattle.scalar_value.specs.declared.memory.Or.TheVariants.{Fault, Memory}
 use Rattle.scalar_value.specs.Gives.{Gives}
-use Rattle.verb_syntax.specs.Machine.{◌>>=◌, state_of, begin, kind_step, step, run, finish}
+use Rattle.syntax_steps.specs.Machine.{◌>>=◌, state_of, begin, kind_step, step, run, finish}
 use Rattle.std.specs.Prelude.{ℤ}
 use Rattle.verb_syntax.specs.Opening.{OpenOne, OpensAll}
 use Rattle.verb_syntax.specs.Reader.{reader_at, moved, reads}
-use Rattle.verb_syntax.proofs.Basics.{from_ltb, from_ltb_false, no_some}
+use Rattle.syntax_steps.proofs.Basics.{from_ltb, from_ltb_false, no_some}
 use Rattle.verb_syntax.proofs.Complete.{run_step}
 use Rattle.verb_syntax.proofs.Sound.{Stands, StandsAt}
 use Rattle.verb_syntax.proofs.Steps.{run_derives, finish_derives}
 use Rattle.verb_syntax.proofs.Scripts.{script_read, opens_read}
 use Rattle.verb_syntax.proofs.Completing.{NoLines, completes}
-use Rattle.verb_syntax.proofs.Kept.{Kept, kind_kept}
+use Rattle.syntax_steps.proofs.Kept.{Kept, kind_kept}
 
 start_stands : (ts : List Token) → StandsAt ts ts begin
 start_stands ts = Opens.body Seps.none Statements.no_more

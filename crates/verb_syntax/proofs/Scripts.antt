@@ -3,19 +3,19 @@ use Rattle.std.proofs.Common.{◌≡◌, ℕ, List, [], ◌∷◌, ◌++◌, tru
 use Rattle.token_scan.specs.declared.token.Token.{Token}
 use Rattle.token_scan.specs.declared.token.TokenKind.{TokenKind}
 use Rattle.token_scan.specs.declared.token.Oper.{Oper}
-use Rattle.verb_syntax.specs.declared.tree.Pipe.{Pipe}
-use Rattle.verb_syntax.specs.declared.tree.Script.{Script}
-use Rattle.verb_syntax.specs.declared.frame.Frame.{Frame}
-use Rattle.verb_syntax.specs.declared.state.Mode.{Mode}
-use Rattle.verb_syntax.specs.declared.state.State.{State}
-use Rattle.verb_syntax.specs.declared.state.Held.{Held}
+use Rattle.syntax_tree.specs.declared.tree.Pipe.{Pipe}
+use Rattle.syntax_tree.specs.declared.tree.Script.{Script}
+use Rattle.syntax_steps.specs.declared.frame.Frame.{Frame}
+use Rattle.syntax_steps.specs.declared.state.Mode.{Mode}
+use Rattle.syntax_steps.specs.declared.state.State.{State}
+use Rattle.syntax_steps.specs.declared.state.Held.{Held}
 use Rattle.verb_syntax.specs.Grammar.{IsSep, place, Pipeline, Statement, Seps, Statements, Derives}
-use Rattle.verb_syntax.specs.Levels.{takes_pipe}
+use Rattle.syntax_steps.specs.Levels.{takes_pipe}
 use Rattle.verb_syntax.specs.Unfinished.{Opens}
-use Rattle.verb_syntax.specs.Machine.{◌>>=◌, state_of, want, argument, pipe_held, stored, sep_step, begin, run, finished, finish}
-use Rattle.verb_syntax.proofs.Basics.{no_some}
+use Rattle.syntax_steps.specs.Machine.{◌>>=◌, state_of, want, argument, pipe_held, stored, sep_step, begin, run, finished, finish}
+use Rattle.syntax_steps.proofs.Basics.{no_some}
 use Rattle.verb_syntax.proofs.Complete.{run_step, run_on, step_binary, step_prefix, step_paren}
-use Rattle.verb_syntax.proofs.Settles.{left_ge}
+use Rattle.syntax_steps.proofs.Settles.{left_ge}
 use Rattle.verb_syntax.proofs.Derived.{value_read, args_read, calls_read, open_call, read_label, pipe_on}
 
 -- a separator where the step leaves the state as it is or stores a pipeline

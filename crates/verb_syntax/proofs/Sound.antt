@@ -3,22 +3,23 @@ use Rattle.std.proofs.Common.{◌≡◌, ℕ, zero, suc, ◌<◌, ◌≤◌, Lis
 use Rattle.token_scan.specs.declared.token.Token.{Token}
 use Rattle.token_scan.specs.declared.token.TokenKind.{TokenKind}
 use Rattle.token_scan.specs.declared.token.Oper.{Oper}
-use Rattle.verb_syntax.specs.declared.tree.Term.{Term}
-use Rattle.verb_syntax.specs.declared.tree.Call.{Call}
-use Rattle.verb_syntax.specs.declared.tree.Arg.{Arg}
-use Rattle.verb_syntax.specs.declared.tree.Pipe.{Pipe}
-use Rattle.verb_syntax.specs.declared.tree.TermKind.TheVariants as kind
-use Rattle.verb_syntax.specs.declared.frame.Frame.{Frame}
-use Rattle.verb_syntax.specs.declared.state.Mode.{Mode}
-use Rattle.verb_syntax.specs.declared.state.State.{State}
-use Rattle.verb_syntax.specs.declared.state.Held.{Held}
-use Rattle.verb_syntax.specs.Trees.{name_term, text_term, binary_term, unary_term}
-use Rattle.verb_syntax.specs.Grammar.{binary_rule, left_rule, prefix_rule, IsOp, IsName, IsLabel, literal_of, is_package, place, Value, Calling, Args, Argument, Calls, Pipeline, Statement, Seps, Statements}
-use Rattle.verb_syntax.specs.Levels.{need, takes_pipe, takes_call}
-use Rattle.verb_syntax.specs.Machine.{held_of, settle, held, is_body, is_args, begin}
-use Rattle.verb_syntax.proofs.Basics.{leb_true, from_leb, no_some}
+use Rattle.syntax_tree.specs.declared.tree.Term.{Term}
+use Rattle.syntax_tree.specs.declared.tree.Call.{Call}
+use Rattle.syntax_tree.specs.declared.tree.Arg.{Arg}
+use Rattle.syntax_tree.specs.declared.tree.Pipe.{Pipe}
+use Rattle.syntax_tree.specs.declared.tree.TermKind.TheVariants as kind
+use Rattle.syntax_steps.specs.declared.frame.Frame.{Frame}
+use Rattle.syntax_steps.specs.declared.state.Mode.{Mode}
+use Rattle.syntax_steps.specs.declared.state.State.{State}
+use Rattle.syntax_steps.specs.declared.state.Held.{Held}
+use Rattle.syntax_tree.specs.Trees.{name_term, text_term, binary_term, unary_term}
+use Rattle.syntax_steps.specs.Rules.{binary_rule, left_rule, prefix_rule, is_package}
+use Rattle.verb_syntax.specs.Grammar.{IsOp, IsName, IsLabel, literal_of, place, Value, Calling, Args, Argument, Calls, Pipeline, Statement, Seps, Statements}
+use Rattle.syntax_steps.specs.Levels.{need, takes_pipe, takes_call}
+use Rattle.syntax_steps.specs.Machine.{held_of, settle, held, is_body, is_args, begin}
+use Rattle.syntax_steps.proofs.Basics.{leb_true, from_leb, no_some}
 use Rattle.verb_syntax.specs.Unfinished.{Opens}
-use Rattle.verb_syntax.proofs.Basics.{le_cases, leb_false, at_some, if_some}
+use Rattle.syntax_steps.proofs.Basics.{le_cases, leb_false, at_some, if_some}
 
 -- What each state says of the tokens: they are the begin of the unfinished rules, and of what stands behind them.
 abbrev pub Stands : List Token → Mode → List Frame → List Token → Type 0

@@ -3,27 +3,28 @@ use Rattle.std.proofs.Common.{Decides, ◌≡◌, ℕ, ◌<◌, ◌≤◌, List,
 use Rattle.token_scan.specs.declared.token.Token.{Token}
 use Rattle.token_scan.specs.declared.token.TokenKind.{TokenKind}
 use Rattle.token_scan.specs.declared.token.Oper.{Oper}
-use Rattle.verb_syntax.specs.declared.tree.Term.{Term}
-use Rattle.verb_syntax.specs.declared.tree.Call.{Call}
-use Rattle.verb_syntax.specs.declared.tree.Arg.{Arg}
-use Rattle.verb_syntax.specs.declared.tree.Pipe.{Pipe}
-use Rattle.verb_syntax.specs.declared.tree.Script.{Script}
-use Rattle.verb_syntax.specs.declared.tree.TermKind.{TermKind}
-use Rattle.verb_syntax.specs.declared.tree.TermKind.TheVariants as kind
-use Rattle.verb_syntax.specs.declared.frame.Frame.{Frame}
-use Rattle.verb_syntax.specs.declared.state.Mode.{Mode}
-use Rattle.verb_syntax.specs.declared.state.State.{State}
-use Rattle.verb_syntax.specs.declared.state.Held.{Held}
-use Rattle.verb_syntax.specs.declared.state.Pending.{Pending}
-use Rattle.verb_syntax.specs.Trees.{term_of, call_term, pipe_term, call_of, arg_of, pipe_of}
-use Rattle.verb_syntax.specs.Grammar.{binary_rule, left_rule, prefix_rule, IsOp, IsName, IsLabel, IsPipe, IsSep, literal_of, is_package, place, Value, Calling, Args, Argument, Whole, Pipeline, Statement, Seps, Statements, Derives}
-use Rattle.verb_syntax.specs.Levels.{need, takes_pipe, takes_call}
-use Rattle.verb_syntax.specs.Machine.{◌>>=◌, state_of, want, held_of, pending_of, settle, held, placed, infix_step, prefix_step, operator_step, is_body, is_args, open_step, whole, argument, comma_step, called, close_bare, close_value, close_step, labels, label_step, pipe_step, assign_step, pipe_held, stored, sep_step, name_step, literal_in, literal_step, text_step, oper_step, kind_step, step, run, finished, finish}
-use Rattle.verb_syntax.proofs.Basics.{from_leb, no_some}
-use Rattle.verb_syntax.proofs.Settles.{left_le}
+use Rattle.syntax_tree.specs.declared.tree.Term.{Term}
+use Rattle.syntax_tree.specs.declared.tree.Call.{Call}
+use Rattle.syntax_tree.specs.declared.tree.Arg.{Arg}
+use Rattle.syntax_tree.specs.declared.tree.Pipe.{Pipe}
+use Rattle.syntax_tree.specs.declared.tree.Script.{Script}
+use Rattle.syntax_tree.specs.declared.tree.TermKind.{TermKind}
+use Rattle.syntax_tree.specs.declared.tree.TermKind.TheVariants as kind
+use Rattle.syntax_steps.specs.declared.frame.Frame.{Frame}
+use Rattle.syntax_steps.specs.declared.state.Mode.{Mode}
+use Rattle.syntax_steps.specs.declared.state.State.{State}
+use Rattle.syntax_steps.specs.declared.state.Held.{Held}
+use Rattle.syntax_steps.specs.declared.state.Pending.{Pending}
+use Rattle.syntax_tree.specs.Trees.{term_of, call_term, pipe_term, call_of, arg_of, pipe_of}
+use Rattle.syntax_steps.specs.Rules.{binary_rule, left_rule, prefix_rule, is_package}
+use Rattle.verb_syntax.specs.Grammar.{IsOp, IsName, IsLabel, IsPipe, IsSep, literal_of, place, Value, Calling, Args, Argument, Whole, Pipeline, Statement, Seps, Statements, Derives}
+use Rattle.syntax_steps.specs.Levels.{need, takes_pipe, takes_call}
+use Rattle.syntax_steps.specs.Machine.{◌>>=◌, state_of, want, held_of, pending_of, settle, held, placed, infix_step, prefix_step, operator_step, is_body, is_args, open_step, whole, argument, comma_step, called, close_bare, close_value, close_step, labels, label_step, pipe_step, assign_step, pipe_held, stored, sep_step, name_step, literal_in, literal_step, text_step, oper_step, kind_step, step, run, finished, finish}
+use Rattle.syntax_steps.proofs.Basics.{from_leb, no_some}
+use Rattle.syntax_steps.proofs.Settles.{left_le}
 use Rattle.std.proofs.lemmas.Option.{option_and_then_some}
 use Rattle.verb_syntax.specs.Unfinished.{Opens}
-use Rattle.verb_syntax.proofs.Basics.{from_ltb, from_eqb, from_and, at_some, if_some}
+use Rattle.syntax_steps.proofs.Basics.{from_ltb, from_eqb, from_and, at_some, if_some}
 use Rattle.std.specs.Str.{bytes_eq}
 use Rattle.std.proofs.lemmas.Slice.Eq.{bytes_eq-Decides}
 use Rattle.verb_syntax.proofs.Sound.{Stands, StandsAt, Begun, open_args, more_args, open_right, open_under, open_paren, open_label, open_piped, open_body, open_target, loosened, Settled, held_derives, held_settles}

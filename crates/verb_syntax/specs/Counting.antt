@@ -2,9 +2,9 @@
 -- rules from or to range with an operator.
 use Rattle.std.specs.Prelude.{◌≡◌, ℕ, ◌+◌, ◌≤◌, List, true, false, cond}
 use Rattle.token_scan.specs.declared.token.Token.{Token}
-use Rattle.verb_syntax.specs.declared.tree.Term.{Term}
-use Rattle.verb_syntax.specs.declared.tree.Call.{Call}
-use Rattle.verb_syntax.specs.declared.tree.Arg.{Arg}
+use Rattle.syntax_tree.specs.declared.tree.Term.{Term}
+use Rattle.syntax_tree.specs.declared.tree.Call.{Call}
+use Rattle.syntax_tree.specs.declared.tree.Arg.{Arg}
 use Rattle.verb_syntax.specs.Grammar.{Value, Calling, Args, Argument, Whole, Calls}
 use Rattle.verb_syntax.specs.Operators.{is_counted, operators_from}
 

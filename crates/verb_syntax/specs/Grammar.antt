@@ -1,5 +1,7 @@
 -- The grammar of scripts, as relations between token lists and trees. `Rule tokens tree rest` says that the front of
 -- the tokens, up to `rest`, derives the tree by that rule. Line feeds that are passed over are gone here (`Lines`).
+-- The rules of a value go by number, from 0 value to 10 primary; `Rules` of syntax_steps has them, with the operators
+-- that belong to each.
 --
 --   script     = {sep} { statement sep {sep} } pipeline {sep}
 --   statement  = "library" "(" package ")" | name "<-" pipeline
@@ -19,72 +21,19 @@
 --   range      = unary [ ":" unary ]
 --   unary      = "-" unary | primary
 --   primary    = literal | name | call | "(" or ")"
-use Rattle.std.specs.Prelude.{◌≡◌, ℕ, suc, ◌<◌, List, [], ◌∷◌, ◌++◌, Option, Some, None, Bool, true, ◌||◌, ◌⊎◌, codes}
-use Rattle.std.specs.Str.{bytes_eq}
+use Rattle.std.specs.Prelude.{◌≡◌, ℕ, suc, ◌<◌, List, [], ◌∷◌, ◌++◌, Option, Some, None, true, ◌⊎◌, codes}
 use Rattle.token_scan.specs.declared.token.Token.{Token}
 use Rattle.token_scan.specs.declared.token.TokenKind.{TokenKind}
 use Rattle.token_scan.specs.declared.token.Oper.{Oper}
-use Rattle.verb_syntax.specs.declared.tree.Term.{Term}
-use Rattle.verb_syntax.specs.declared.tree.Call.{Call}
-use Rattle.verb_syntax.specs.declared.tree.Arg.{Arg}
-use Rattle.verb_syntax.specs.declared.tree.Pipe.{Pipe}
-use Rattle.verb_syntax.specs.declared.tree.Script.{Script}
-use Rattle.verb_syntax.specs.declared.tree.TermKind.{TermKind}
-use Rattle.verb_syntax.specs.declared.tree.TermKind.TheVariants as kind
-use Rattle.verb_syntax.specs.Trees.{term_of, name_term, binary_term, unary_term, call_term, pipe_term, call_of, arg_of, pipe_of}
-
--- The rules of a value by number, from the loosest to the tightest: 0 value, 1 or, 2 and, 3 not, 4 comparison, 5 sum,
--- 6 product, 7 percent, 8 range, 9 unary, 10 primary. Each takes the next tighter one for its operands,
--- or itself: these three tables say all. 11 stands for no rule.
-
--- the rule that a binary operator belongs to; its right operand is of the next tighter rule
-abbrev pub binary_rule : Oper → ℕ
-binary_rule Oper.Tilde = 0
-binary_rule Oper.Or = 1
-binary_rule Oper.And = 2
-binary_rule Oper.Eq = 4
-binary_rule Oper.Ne = 4
-binary_rule Oper.Lt = 4
-binary_rule Oper.Le = 4
-binary_rule Oper.Gt = 4
-binary_rule Oper.Ge = 4
-binary_rule Oper.Add = 5
-binary_rule Oper.Sub = 5
-binary_rule Oper.Mul = 6
-binary_rule Oper.Div = 6
-binary_rule Oper.Mod = 7
-binary_rule Oper.FloorDiv = 7
-binary_rule Oper.IsIn = 7
-binary_rule Oper.Colon = 8
-binary_rule _ = 11
-
--- the rule of a binary operator's left operand: the operator's own where operators of the rule group to the left,
--- the next tighter one where the rule has at most one operator
-abbrev pub left_rule : Oper → ℕ
-left_rule Oper.Tilde = 1
-left_rule Oper.Or = 1
-left_rule Oper.And = 2
-left_rule Oper.Eq = 5
-left_rule Oper.Ne = 5
-left_rule Oper.Lt = 5
-left_rule Oper.Le = 5
-left_rule Oper.Gt = 5
-left_rule Oper.Ge = 5
-left_rule Oper.Add = 5
-left_rule Oper.Sub = 5
-left_rule Oper.Mul = 6
-left_rule Oper.Div = 6
-left_rule Oper.Mod = 7
-left_rule Oper.FloorDiv = 7
-left_rule Oper.IsIn = 7
-left_rule Oper.Colon = 9
-left_rule _ = 11
-
--- the rule that an operator before its operand belongs to, which is also that of the operand
-abbrev pub prefix_rule : Oper → ℕ
-prefix_rule Oper.Not = 3
-prefix_rule Oper.Sub = 9
-prefix_rule _ = 11
+use Rattle.syntax_tree.specs.declared.tree.Term.{Term}
+use Rattle.syntax_tree.specs.declared.tree.Call.{Call}
+use Rattle.syntax_tree.specs.declared.tree.Arg.{Arg}
+use Rattle.syntax_tree.specs.declared.tree.Pipe.{Pipe}
+use Rattle.syntax_tree.specs.declared.tree.Script.{Script}
+use Rattle.syntax_tree.specs.declared.tree.TermKind.{TermKind}
+use Rattle.syntax_tree.specs.declared.tree.TermKind.TheVariants as kind
+use Rattle.syntax_steps.specs.Rules.{binary_rule, left_rule, prefix_rule, is_package}
+use Rattle.syntax_tree.specs.Trees.{term_of, name_term, binary_term, unary_term, call_term, pipe_term, call_of, arg_of, pipe_of}
 
 -- what one token is
 abbrev pub IsOp : Oper → Token → Type 0
@@ -109,12 +58,6 @@ literal_of (TokenKind.Decimal number) = Some (kind.Decimal number)
 literal_of (TokenKind.Str text) = Some (kind.Str text)
 literal_of (TokenKind.Word word) = Some (kind.Word word)
 literal_of _ = None
-
--- the packages that a script may load, which does nothing
-abbrev pub is_package : List ℕ → Bool
-is_package name =
-    bytes_eq name (codes "dplyr") || bytes_eq name (codes "tidyr") || bytes_eq name (codes "lubridate")
-    || bytes_eq name (codes "tidyverse")
 
 -- the place of the first token
 abbrev pub place : List Token → ℕ

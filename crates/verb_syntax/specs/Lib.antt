@@ -1,11 +1,8 @@
-pub mod Trees
 pub mod Grammar
 pub mod Lines
-pub mod Levels
 pub mod Unfinished
 pub mod Operators
 pub mod Parsing
-pub mod Machine
 pub mod Reader
 pub mod Counting
 pub mod Opening

@@ -3,7 +3,7 @@ use Rattle.std.specs.Prelude.{ℕ, suc, ◌-◌, List, [], ◌∷◌, Bool, true
 use Rattle.token_scan.specs.declared.token.Token.{Token}
 use Rattle.token_scan.specs.declared.token.TokenKind.{TokenKind}
 use Rattle.token_scan.specs.declared.token.Oper.{Oper}
-use Rattle.verb_syntax.specs.declared.tree.Script.{Script}
+use Rattle.syntax_tree.specs.declared.tree.Script.{Script}
 use Rattle.verb_syntax.specs.Grammar.{Derives}
 
 abbrev pub is_line : TokenKind → Bool

@@ -3,7 +3,7 @@
 use Rattle.std.specs.Prelude.{◌≡◌, ℤ, List, [], ◌∷◌, ◌++◌}
 use Rattle.token_scan.specs.declared.token.Token.{Token}
 use Rattle.token_scan.specs.declared.token.TokenKind.{TokenKind}
-use Rattle.verb_syntax.specs.declared.frame.Frame.{Frame}
+use Rattle.syntax_steps.specs.declared.frame.Frame.{Frame}
 use Rattle.verb_syntax.specs.Lines.{read}
 use Rattle.verb_syntax.specs.Unfinished.{Opens}
 use Rattle.verb_syntax.specs.Parsing.{Begins}

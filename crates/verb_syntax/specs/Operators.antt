@@ -3,7 +3,7 @@ use Rattle.std.specs.Prelude.{ℕ, suc, List, [], ◌∷◌, Bool, true, false, 
 use Rattle.token_scan.specs.declared.token.Token.{Token}
 use Rattle.token_scan.specs.declared.token.TokenKind.{TokenKind}
 use Rattle.token_scan.specs.declared.token.Oper.{Oper}
-use Rattle.verb_syntax.specs.Grammar.{binary_rule}
+use Rattle.syntax_steps.specs.Rules.{binary_rule}
 use Rattle.verb_syntax.specs.Lines.{deeper}
 
 -- whether an operand ends with this token, so that an operator behind it is binary

@@ -3,12 +3,12 @@ use Rattle.std.specs.Prelude.{◌≡◌, ℕ, ◌<◌, List, [], ◌∷◌, ◌+
 use Rattle.scalar_value.specs.declared.memory.Or.{Or}
 use Rattle.scalar_value.specs.declared.memory.Or.TheVariants.{Fault, Memory}
 use Rattle.token_scan.specs.declared.token.Token.{Token}
-use Rattle.verb_syntax.specs.declared.tree.Script.{Script}
-use Rattle.verb_syntax.specs.declared.tree.SyntaxFault.{SyntaxFault}
-use Rattle.verb_syntax.specs.declared.tree.SyntaxKind.{SyntaxKind}
-use Rattle.verb_syntax.specs.declared.frame.Frame.{Frame}
+use Rattle.syntax_tree.specs.declared.tree.Script.{Script}
+use Rattle.verb_syntax.specs.declared.fault.SyntaxFault.{SyntaxFault}
+use Rattle.verb_syntax.specs.declared.fault.SyntaxKind.{SyntaxKind}
+use Rattle.syntax_steps.specs.declared.frame.Frame.{Frame}
 use Rattle.verb_syntax.specs.Lines.{read, DerivesScript}
-use Rattle.verb_syntax.specs.Levels.{levels}
+use Rattle.syntax_steps.specs.Levels.{levels}
 use Rattle.verb_syntax.specs.Unfinished.{Opens}
 use Rattle.verb_syntax.specs.Operators.{operators}
 

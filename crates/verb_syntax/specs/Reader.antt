@@ -1,14 +1,14 @@
 -- How `parse` reads one token, line feeds and limits included: what its private functions give.
 use Rattle.std.specs.Prelude.{Option, Some, None, Result, Ok, Err, cond, ◌||◌, nat_lt}
 use Rattle.token_scan.specs.declared.token.Token.{Token}
-use Rattle.verb_syntax.specs.declared.tree.SyntaxFault.{SyntaxFault}
-use Rattle.verb_syntax.specs.declared.tree.SyntaxKind.{SyntaxKind}
-use Rattle.verb_syntax.specs.declared.state.State.{State}
+use Rattle.verb_syntax.specs.declared.fault.SyntaxFault.{SyntaxFault}
+use Rattle.verb_syntax.specs.declared.fault.SyntaxKind.{SyntaxKind}
+use Rattle.syntax_steps.specs.declared.state.State.{State}
 use Rattle.verb_syntax.specs.declared.reader.Reader.{Reader}
-use Rattle.verb_syntax.specs.Levels.{levels}
+use Rattle.syntax_steps.specs.Levels.{levels}
 use Rattle.verb_syntax.specs.Lines.{deeper, goes_on, is_passed}
 use Rattle.verb_syntax.specs.Operators.{ends_operand, count_at}
-use Rattle.verb_syntax.specs.Machine.{step}
+use Rattle.syntax_steps.specs.Machine.{step}
 
 -- behind a token in this state
 abbrev pub reader_at : Token → Reader → State → Reader

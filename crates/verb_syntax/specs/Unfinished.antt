@@ -2,13 +2,14 @@
 use Rattle.std.specs.Prelude.{◌≡◌, ℕ, ◌≤◌, ◌<◌, List, [], ◌∷◌, true}
 use Rattle.token_scan.specs.declared.token.Token.{Token}
 use Rattle.token_scan.specs.declared.token.Oper.{Oper}
-use Rattle.verb_syntax.specs.declared.tree.Pipe.{Pipe}
-use Rattle.verb_syntax.specs.declared.tree.Term.{Term}
-use Rattle.verb_syntax.specs.declared.tree.Call.{Call}
-use Rattle.verb_syntax.specs.declared.tree.Arg.{Arg}
-use Rattle.verb_syntax.specs.declared.frame.Frame.{Frame}
-use Rattle.verb_syntax.specs.Grammar.{Value, Args, Calls, Statements, Seps, IsOp, IsName, IsLabel, IsPipe, binary_rule, left_rule, prefix_rule, place}
-use Rattle.verb_syntax.specs.Levels.{need, takes_pipe, takes_call}
+use Rattle.syntax_tree.specs.declared.tree.Pipe.{Pipe}
+use Rattle.syntax_tree.specs.declared.tree.Term.{Term}
+use Rattle.syntax_tree.specs.declared.tree.Call.{Call}
+use Rattle.syntax_tree.specs.declared.tree.Arg.{Arg}
+use Rattle.syntax_steps.specs.declared.frame.Frame.{Frame}
+use Rattle.syntax_steps.specs.Rules.{binary_rule, left_rule, prefix_rule}
+use Rattle.verb_syntax.specs.Grammar.{Value, Args, Calls, Statements, Seps, IsOp, IsName, IsLabel, IsPipe, place}
+use Rattle.syntax_steps.specs.Levels.{need, takes_pipe, takes_call}
 
 -- `Opens tokens frames rest` says that the tokens up to `rest` are the beginnings of these unfinished rules, the outermost
 -- rule first, each with the parts that stand in the frame, and that the innermost rule goes on at `rest`.

@@ -1,21 +1,18 @@
-ghost use Rattle.std.specs.Prelude.{◌≡◌, ◌+◌, ◌^◌, ◌<◌, ◌≤◌, [], ◌∷◌, false, IfOk};
+ghost use Rattle.std.specs.Prelude.{◌≡◌, ◌+◌, ◌^◌, ◌<◌, false};
 ghost use Rattle.scalar_value.specs.Gives.{Gives};
 ghost use Rattle.token_scan.specs.Spans.{AreInOrder};
 ghost use Rattle.verb_syntax.specs.Lines.{is_line, is_passed, deeper, goes_on};
 ghost use Rattle.verb_syntax.specs.Operators.{ends_operand, is_counted, count_at};
-ghost use Rattle.verb_syntax.specs.Machine.{begin};
 ghost use Rattle.verb_syntax.specs.Reader.{limited, reads};
 ghost use Rattle.verb_syntax.specs.Parsing.{IsParsed, DeriveOne};
 ghost use Rattle.verb_syntax.specs.Counting.{CountsOperators};
 ghost use Rattle.verb_syntax.specs.Opening.{OpenOne, OpensAll};
 
-use crate::frame::{Frame, Frames};
-use crate::rule::rule_of;
-use crate::state::{Mode, State};
-use crate::step::{advanced, ended};
-use crate::tree::{Script, SyntaxFault, SyntaxKind};
-use scalar_value::{Mem, Or, Res, Seq};
+use crate::fault::{SyntaxFault, SyntaxKind};
+use scalar_value::{Or, Res};
 use std::alloc::Global;
+use syntax_steps::{State, advanced, begun, ended, rule_of};
+use syntax_tree::Script;
 use token_scan::{Oper, Token, TokenKind};
 
 /// How many levels may be open at a place of a script.
@@ -33,17 +30,6 @@ pub struct Reader {
     goes_on: bool,
     whole: bool,
     count: usize,
-}
-
-fn begun(alloc: Global) -> Mem<State>
-    ensures { IfOk result (λ made. made ≡ begin) }
-{
-    let mut frames = Frames::new(alloc);
-    frames.push(Frame::Body(Seq::new(alloc)))?;
-    Ok(State {
-        mode: Mode::Want,
-        frames,
-    })
 }
 
 fn is_line_feed(kind: &TokenKind) -> bool

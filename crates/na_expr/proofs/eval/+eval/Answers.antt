@@ -1,7 +1,7 @@
-use Rattle.std.proofs.Common.{◌-◌, ◌≡◌, ◌∙◌, sym, ap, ◌*◌, ◌+◌, ℕ, ◌<◌, arith, length, map, drop}
+use Rattle.std.proofs.Common.{◌-◌, ◌≡◌, ◌∙◌, sym, ap, ◌*◌, ◌+◌, ℕ, arith, length, map, drop}
 use Rattle.na_expr.specs.Evaluation.{val}
 use Rattle.na_expr.specs.Operators.{first_case, carried}
-use Rattle.na_expr.proofs.ListSteps.{too_many, case_step, last_case, among_first}
+use Rattle.na_expr.proofs.ListSteps.{too_many, case_step, last_case}
 use Rattle.na_expr.proofs.eval.+eval.Goals as goal
 
 pub eval_call-returns-in-len4-up : goal.eval_call-returns-in-len4-up
@@ -17,5 +17,5 @@ eval_cases-loop-at-preserved t c =
 pub eval_cases-returns : goal.eval_cases-returns
 eval_cases-returns t c =
     let place : length c.args.args.now - 1 ≡ 2 * c.loop-at.at = omega arith in
-    c.carried-2.ensures ∙ ap (carried c.args.kind) c.in_ok-eval_row-2.ensures
+    c.carried-2.ensures ∙ ap (carried c.args.kind) c.in_ok-eval-2.ensures
     ∙ sym (c.loop-at.invariant ∙ last_case (val c.args.row.now) c.args.kind c.args.args.now (2 * c.loop-at.at) c.index-args-args.result (omega arith) (rw place at c.index-args-args.is))

@@ -1,4 +1,4 @@
-use Rattle.std.proofs.Common.{◌≡◌, ◌∙◌, sym, ap, ap₂, ◌*◌, ◌+◌, ◌-◌, ℕ, ◌<◌, ◌≤◌, Bool, Option, arith, length, map, drop}
+use Rattle.std.proofs.Common.{◌≡◌, ◌∙◌, sym, ap, ap₂, ◌*◌, ◌+◌, ℕ, ◌≤◌, Bool, Option, arith, length, map, drop}
 use Rattle.std.proofs.lemmas.List.{length-map}
 use Rattle.scalar_value.specs.declared.value.ColType.{ColType}
 use Rattle.na_expr.specs.Types.{typed, all_of, then_all, case_seen}

@@ -1,7 +1,7 @@
-use Rattle.std.proofs.Common.{arith, to_z, to_z-of_z, pos, ◌≡◌, refl, sym, ap, ap₂, ◌∙◌, Some, ℤ, ℕ, Bool, true, false, rules, FitsSigned}
+use Rattle.std.proofs.Common.{arith, to_z, to_z-of_z, pos, ◌≡◌, refl, sym, ap, ◌∙◌, Some, ℤ, true, false, rules, FitsSigned}
 use Rattle.std.specs.Int.{w8, w16, w32}
 use Rattle.std.proofs.lemmas.Int.{ints}
-use Rattle.jiff_core.specs.Calendar.{days_from_civil, IsDate}
+use Rattle.jiff_core.specs.Calendar.{IsDate}
 use Rattle.scalar_fns.proofs.Calendar.{date_there, date_missing, same_number}
 use Rattle.scalar_fns.proofs.day.day_of_parts.Goals as goal
 

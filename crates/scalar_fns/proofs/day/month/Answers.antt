@@ -1,4 +1,4 @@
-use Rattle.std.proofs.Common.{arith, to_z-of_z, pos, ◌≡◌}
+use Rattle.std.proofs.Common.{arith, to_z-of_z, ◌≡◌}
 use Rattle.std.proofs.lemmas.Int.{ints}
 use Rattle.jiff_core.proofs.DateLemmas.{civil}
 use Rattle.scalar_fns.specs.Days.{month_of}
