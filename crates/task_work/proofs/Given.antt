@@ -3,12 +3,11 @@ use Rattle.std.proofs.Common.{◌≡◌, ℕ, ◌<◌, Bool, true, false, List, 
 use Rattle.std.specs.Prelude.{Option, Some, None}
 use Rattle.std.specs.Arc.{arc_value}
 use Rattle.scalar_value.specs.declared.value.Value.{Value}
-use Rattle.scalar_value.specs.declared.value.ColType.{ColType}
 use Rattle.plan_machine.specs.declared.entry.Job.{Job}
 use Rattle.plan_machine.specs.declared.entry.Job.TheVariants as job
 use Rattle.plan_machine.specs.Batch.{Batch, blank}
 use Rattle.plan_machine.specs.State.{Task}
-use Rattle.plan_nodes.specs.Operators.{OpMeaning, Each, flat, item, end_count}
+use Rattle.plan_nodes.specs.Operators.{Each, flat, item, end_count}
 use Rattle.task_work.specs.declared.work.Part.{Part}
 use Rattle.task_work.specs.declared.work.Share.{Share}
 use Rattle.task_work.specs.declared.work.Share.TheVariants as share

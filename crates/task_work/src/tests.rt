@@ -1,5 +1,5 @@
 //! Each job through a small operator, which gives the rows that it streams one in a batch, and at its end a row with 7.
-ghost use Rattle.std.specs.Prelude.{◌≡◌, ◌+◌, ◌≤◌, [], ◌∷◌, List, IfOk, IsTrue, cond, nat_lt, Some, None, length, take, drop, true, pos};
+ghost use Rattle.std.specs.Prelude.{◌≡◌, ◌+◌, ◌≤◌, [], ◌∷◌, List, IfOk, IsTrue, cond, nat_lt, Some, None, length, take, drop, true};
 ghost use Rattle.scalar_value.specs.declared.value.Value.{Value as AnyValue};
 ghost use Rattle.scalar_value.specs.declared.value.ColType.{ColType as Kind};
 ghost use Rattle.column_batch.specs.Batches.{kinds_of};
@@ -330,17 +330,17 @@ fn what_all_gathered_is_shared(rt: HostRuntime) -> Result<(), Fail> {
     Ok(())
 }
 
-/// What a streamed batch of the rows 1 and 2 gives from this row on, and what waits then.
+/// The part after a streamed batch of the rows 1 and 2, what the batch gives from this row on, and what waits then.
 fn streamed<R: Threads + Sync>(
     rt: &R,
     alloc: Global,
     kept: bool,
     from: u64,
-) -> Mem<Option<(Batch, Option<Waiting>)>> {
+) -> Mem<Option<(CopyingPart, Batch, Option<Waiting>)>> {
     let part = part_of(alloc, &[])?;
     let batch = two_rows(alloc, 5, 1, 2)?;
     match run(rt, alloc, kept, Work::Stream { part, batch, from })? {
-        Fruit::Stream { part: _, out, rest } => Ok(Some((out, rest))),
+        Fruit::Stream { part, out, rest } => Ok(Some((part, out, rest))),
         _ => Ok(None),
     }
 }
@@ -354,7 +354,8 @@ fn a_streamed_batch_gives_rows_and_waits_with_the_rest(rt: HostRuntime) -> Resul
         (false, 1, None, 2, None),
     ];
     for (kept, from, index, number, next) in cases {
-        let (out, rest) = streamed(&rt, alloc, kept, from)?.expect(&rt, "a batch");
+        let (part, out, rest) = streamed(&rt, alloc, kept, from)?.expect(&rt, "a batch");
+        assert_eq!(&rt; part.local.len(), 1);
         expect_batch(&rt, &out, index, &[number]);
         match rest {
             Some(waiting) => {
