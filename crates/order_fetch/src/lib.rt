@@ -5,3 +5,6 @@ mod gather;
 mod sink;
 
 pub use sink::{Gathered, SinkOp};
+
+#[cfg(test)]
+mod tests;

@@ -27,7 +27,7 @@ right-true : (a b : Bool) → (a && b) ≡ true → b ≡ true
 right-true true b h = h
 right-true false b h = absurd (cc)
 
-both-true : (a b : Bool) → a ≡ true → b ≡ true → (a && b) ≡ true
+pub both-true : (a b : Bool) → a ≡ true → b ≡ true → (a && b) ≡ true
 both-true a b p q = rw p q
 
 kind-same : (s t : ColType) → same_kind s t ≡ true → s ≡ t

@@ -8,3 +8,6 @@ mod project;
 pub use filter::FilterOp;
 pub use part::NoPart;
 pub use project::ProjectOp;
+
+#[cfg(test)]
+mod tests;
