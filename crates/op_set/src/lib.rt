@@ -7,3 +7,6 @@ mod parts;
 
 pub use any::{AnyLocal, AnyOp, AnyShared};
 pub use choice::op_of;
+
+#[cfg(test)]
+mod tests;
