@@ -35,3 +35,5 @@ pub mod BringClose
 pub mod Streamed
 pub mod BringStream
 pub mod Pushed
+pub mod Begins
+pub mod RowsBegin

@@ -1,9 +1,16 @@
-ghost use Rattle.std.specs.Prelude.{◌≡◌, ◌<◌, ℕ, length, IfOk, slice_index_or, None, List, []};
+ghost use Rattle.std.specs.Prelude.{◌≡◌, ◌<◌, ℕ, cond, drop, map, true, false, length, IfOk, slice_index_or, Some, None, List, []};
+ghost use Rattle.std.specs.declared.alloc.Global.{Global as Heap};
+ghost use Rattle.std.specs.declared.sync.Arc.{Arc as Shared};
+ghost use Rattle.row_table.specs.Tables.{TableValue};
 ghost use Rattle.std.specs.Arc.{arc_value};
 ghost use Rattle.scalar_value.specs.declared.value.ColType.{ColType};
-ghost use Rattle.task_core.specs.Shares.{IsTableShare, IsPartShare, IsFreshPart};
+ghost use Rattle.task_core.specs.Told.{rows_of_tables};
+ghost use Rattle.task_core.specs.Opening.{AreTables, AreOperators};
+ghost use Rattle.task_core.specs.Shares.{IsTableShare, IsPartShare, IsFreshPart, RowsOpen};
 
-use plan_nodes::Operator;
+use crate::infos::is_source;
+use crate::setting::Setting;
+use plan_nodes::{Node, Operator};
 use row_table::Table;
 use scalar_value::Mem;
 use std::alloc::Global;
@@ -56,4 +63,56 @@ pub fn part_row<O: Operator>(
         row.push(Some(Share::Part(fresh_part(alloc, op, &shared)?)))?;
     }
     Ok(row)
+}
+
+/// The shares of a node: of a source's table, which is the next of the sources, or of its operator, the next of those.
+fn row_of<O: Operator>(
+    alloc: Global,
+    is_source: bool,
+    sources: &[Arc<Table, Global>],
+    ops: &[Arc<O, Global>],
+    workers: usize,
+) -> Mem<Vec<Option<Share<O, O::Shared, O::Local>>>>
+    requires source { is_source ≡ true → 0 < length sources.now }
+    requires other { is_source ≡ false → 0 < length ops.now }
+    ensures size { IfOk result (λ row. length row.items ≡ workers) }
+    ensures source { IfOk result (λ row. is_source ≡ true → (d : Shared TableValue Heap) (k : ℕ) → k < workers → IsTableShare O.meaning O.local_is O.shared_is (arc_value (slice_index_or sources.now 0 d)) (slice_index_or row.items k None)) }
+    ensures other { IfOk result (λ row. is_source ≡ false → (d : Shared O Heap) (k : ℕ) → k < workers → IsPartShare O.meaning O.local_is O.shared_is (arc_value (slice_index_or ops.now 0 d)) (slice_index_or row.items k None)) }
+{
+    if is_source {
+        table_row(alloc, &sources[0], workers)
+    } else {
+        part_row(alloc, &ops[0], workers)
+    }
+}
+
+/// The items behind the first, where that was taken.
+fn rest_where<T>(is_taken: bool, items: &[T]) -> &[T]
+    requires { is_taken ≡ true → 0 < length items.now }
+    ensures { result.now ≡ cond is_taken (drop 1 items.now) items.now }
+{
+    if is_taken { &items[1..] } else { items }
+}
+
+/// The shares of all nodes, in the order of the plan.
+pub fn rows_of<O: Operator>(
+    alloc: Global,
+    nodes: &[Node],
+    sources: &[Arc<Table, Global>],
+    ops: &[Arc<O, Global>],
+    setting: Setting,
+) -> Mem<Vec<Vec<Option<Share<O, O::Shared, O::Local>>>>>
+    requires tables { AreTables nodes.now sources.now }
+    requires operators { AreOperators O.meaning nodes.now setting.batch ops.now }
+    ensures { IfOk result (λ made. RowsOpen O.meaning O.local_is O.shared_is nodes.now (rows_of_tables sources.now) setting.batch setting.workers (map (λ row. row.items) made.items)) }
+{
+    let mut made = Vec::with_capacity(alloc, nodes.len())?;
+    let (mut sources, mut ops) = (sources, ops);
+    for node in nodes {
+        let source = is_source(&node.kind);
+        made.push(row_of(alloc, source, sources, ops, setting.workers as usize)?)?;
+        sources = rest_where(source, sources);
+        ops = rest_where(!source, ops);
+    }
+    Ok(made)
 }
