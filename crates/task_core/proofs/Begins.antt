@@ -1,17 +1,15 @@
 -- What is stored as a run begins stands for the opening state.
-use Rattle.std.proofs.Common.{◌≡◌, ℕ, zero, suc, ◌+◌, ◌-◌, ◌<◌, ◌≤◌, Bool, true, false, cond, List, [], ◌∷◌, length, map, Option, Some, None, ◌⊎◌, inl, inr, slice_index_or, refl, sym, ap, subst, ◌∙◌, arith}
+use Rattle.std.proofs.Common.{◌≡◌, ℕ, zero, suc, ◌+◌, ◌-◌, ◌≤◌, Bool, true, false, cond, List, [], ◌∷◌, length, map, Option, None, slice_index_or, refl, sym, ap, subst, ◌∙◌, arith}
 use Rattle.scalar_value.specs.declared.value.Value.{Value}
 use Rattle.scalar_value.specs.declared.value.ColType.{ColType}
 use Rattle.backpressure.specs.Edges.{quiet}
 use Rattle.std.specs.VecDeque.{deque_capacity}
-use Rattle.plan_machine.specs.declared.entry.Phase.{Phase}
 use Rattle.plan_machine.specs.declared.entry.Phase.TheVariants.{Emitting, Folding, Streaming, Tailing}
 use Rattle.plan_machine.specs.declared.shape.OpShape.{OpShape}
 use Rattle.plan_machine.specs.Phases.{first_phase_of}
-use Rattle.plan_machine.specs.Lists.{at_or, gather, sum_to}
-use Rattle.plan_machine.specs.Batch.{Batch, parts}
-use Rattle.plan_machine.specs.Plan.{Plan as MachinePlan}
-use Rattle.plan_machine.specs.State.{State, Task, tasks_at, on_node, opening}
+use Rattle.plan_machine.specs.Lists.{at_or, sum_to}
+use Rattle.plan_machine.specs.Batch.{parts}
+use Rattle.plan_machine.specs.State.{Task, tasks_at, on_node, opening}
 use Rattle.plan_machine.proofs.Weigh.{gather-nil}
 use Rattle.plan_nodes.specs.declared.node.Node.{Node}
 use Rattle.plan_nodes.specs.declared.node.NodeKind.{NodeKind}
@@ -25,7 +23,7 @@ use Rattle.task_core.specs.declared.stage.NodeInfo.{NodeInfo}
 use Rattle.task_core.specs.declared.stage.Flight.{Flight}
 use Rattle.task_core.specs.Told.{Given, plan_of, site_of}
 use Rattle.task_core.specs.Openings.{info_of, stage_of}
-use Rattle.task_core.specs.Stored.{Held, InfoIs, StageIs, QueueIs, SeatIs, in_flight, goes_on, waiting_item}
+use Rattle.task_core.specs.Stored.{InfoIs, StageIs, QueueIs, SeatIs, in_flight, goes_on, waiting_item}
 
 -- a node by its number, as the element at its place
 pub at_is : {A : Type 0} (d : A) (k : ℕ) (xs : List A) → at_or d k xs ≡ slice_index_or xs k d
@@ -94,7 +92,7 @@ module _ (g : Given) where
   unfolding machine_node_at
   stage_opens k st e =
       let began : st.phase ≡ first_phase_of (is_source (v_at k).kind) (meaning_at g.nodes g.pace.batch (suc k)).shape =
-          ap (λ (x : Stage). x.phase) e ∙ ap (λ (s : OpShape). first_phase_of (is_source (v_at k).kind) s) (shape_at k) in
+      ap (λ (x : Stage). x.phase) e ∙ ap (λ (s : OpShape). first_phase_of (is_source (v_at k).kind) s) (shape_at k) in
       record {
         is_phase = began;
         is_next = ap (λ (x : Stage). x.next) e;

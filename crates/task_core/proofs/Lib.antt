@@ -37,3 +37,4 @@ pub mod BringStream
 pub mod Pushed
 pub mod Begins
 pub mod RowsBegin
+pub mod Opened

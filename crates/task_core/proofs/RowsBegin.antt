@@ -1,5 +1,5 @@
 -- The rows of shares as a run begins, node by node.
-use Rattle.std.proofs.Common.{◌≡◌, ℕ, zero, suc, ◌+◌, ◌-◌, ◌<◌, Bool, true, false, not, cond, List, [], ◌∷◌, length, map, drop, Option, Some, None, slice_index_or, refl, sym, ap, subst, ◌∙◌, arith}
+use Rattle.std.proofs.Common.{◌≡◌, ℕ, suc, ◌-◌, ◌<◌, Bool, true, false, not, cond, List, [], ◌∷◌, length, drop, Option, None, slice_index_or, refl, sym, ap, subst, ◌∙◌, arith}
 use Rattle.std.specs.declared.alloc.Global.{Global}
 use Rattle.std.specs.declared.sync.Arc.{Arc}
 use Rattle.std.specs.Arc.{arc_value}
@@ -74,39 +74,37 @@ module _ {O S L : Type 0}
     (local_is : OpMeaning → List ColType → L → List (Batch (List Value)) → Type 0)
     (shared_is : OpMeaning → List (List ColType) → S → List (List Value) → List (Batch (List Value)) → Type 0)
   where
-  pub row_opens : (nodes : List Node) (ts : List (List (List Value))) (batch workers k : ℕ) (v : Node) (vs : List Node) (xs : List (Arc TableValue Global)) (ys : List (Arc O Global)) (row : List (Option (Share O S L)))
-      → drop k nodes ≡ v ∷ vs
-      → drop k (tables_of nodes ts) ≡ tables_of (drop k nodes) (rows_of_tables xs)
-      → Each (λ t n. IsSourceTable (node_at nodes n) (arc_value t)) xs (numbers_of true (suc k) (drop k nodes))
-      → Each (λ op n. meaning (arc_value op) ≡ meaning_at nodes batch n) ys (numbers_of false (suc k) (drop k nodes))
-      → length row ≡ workers
-      → (is_source v.kind ≡ true → (d : Arc TableValue Global) (w : ℕ) → w < workers → IsTableShare meaning local_is shared_is (arc_value (slice_index_or xs 0 d)) (slice_index_or row w None))
-      → (is_source v.kind ≡ false → (d : Arc O Global) (w : ℕ) → w < workers → IsPartShare meaning local_is shared_is (arc_value (slice_index_or ys 0 d)) (slice_index_or row w None))
-      → RowOpens meaning local_is shared_is nodes ts batch workers (suc k) row
-  row_opens nodes ts batch workers k v vs xs ys row there so_far tables ops size table_shares part_shares =
-      let node : node_at nodes (suc k) ≡ v = node_here nodes k v vs there in
-      let tables' = subst (λ ns. Each (λ t n. IsSourceTable (node_at nodes n) (arc_value t)) xs (numbers_of true (suc k) ns)) there tables in
-      let ops' = subst (λ ns. Each (λ op n. meaning (arc_value op) ≡ meaning_at nodes batch n) ys (numbers_of false (suc k) ns)) there ops in
-      record {
-        size = size;
-        source = λ e.
-            let is : is_source v.kind ≡ true = ap (λ (u : Node). is_source u.kind) (sym node) ∙ e in
-            let some = each_there (λ t n. IsSourceTable (node_at nodes n) (arc_value t)) (is_source v.kind) (suc k) (numbers_of true (suc (suc k)) vs) xs tables' is in
-            let d = some_of 0 xs some in
-            (
-              arc_value (slice_index_or xs 0 d),
-              each_here (λ t n. IsSourceTable (node_at nodes n) (arc_value t)) (is_source v.kind) (suc k) (numbers_of true (suc (suc k)) vs) xs d tables' is,
-              sym (ap (λ j. at_or [] j (tables_of nodes ts)) (let j : suc k - 1 ≡ k = omega arith in j) ∙ (table_there nodes ts (rows_of_tables xs) k v vs there so_far ∙ first_rows (is_source v.kind) xs d is some)),
-              table_shares is d
-            );
-        other = λ e.
-            let is : is_source v.kind ≡ false = ap (λ (u : Node). is_source u.kind) (sym node) ∙ e in
-            let is' = not_true_is (is_source v.kind) is in
-            let some = each_there (λ op n. meaning (arc_value op) ≡ meaning_at nodes batch n) (not (is_source v.kind)) (suc k) (numbers_of false (suc (suc k)) vs) ys ops' is' in
-            let d = some_of 0 ys some in
-            (
-              arc_value (slice_index_or ys 0 d),
-              each_here (λ op n. meaning (arc_value op) ≡ meaning_at nodes batch n) (not (is_source v.kind)) (suc k) (numbers_of false (suc (suc k)) vs) ys d ops' is',
-              part_shares is d
-            );
-      }
+    pub row_opens : (nodes : List Node) (ts : List (List (List Value))) (batch workers k : ℕ) (v : Node) (vs : List Node) (xs : List (Arc TableValue Global)) (ys : List (Arc O Global)) (row : List (Option (Share O S L)))
+        → drop k nodes ≡ v ∷ vs
+        → drop k (tables_of nodes ts) ≡ tables_of (drop k nodes) (rows_of_tables xs)
+        → Each (λ t n. IsSourceTable (node_at nodes n) (arc_value t)) xs (numbers_of true (suc k) (drop k nodes))
+        → Each (λ op n. meaning (arc_value op) ≡ meaning_at nodes batch n) ys (numbers_of false (suc k) (drop k nodes))
+        → length row ≡ workers
+        → (is_source v.kind ≡ true → (d : Arc TableValue Global) (w : ℕ) → w < workers → IsTableShare meaning local_is shared_is (arc_value (slice_index_or xs 0 d)) (slice_index_or row w None))
+        → (is_source v.kind ≡ false → (d : Arc O Global) (w : ℕ) → w < workers → IsPartShare meaning local_is shared_is (arc_value (slice_index_or ys 0 d)) (slice_index_or row w None))
+        → RowOpens meaning local_is shared_is nodes ts batch workers (suc k) row
+    row_opens nodes ts batch workers k v vs xs ys row there so_far tables ops size table_shares part_shares =
+        let node : node_at nodes (suc k) ≡ v = node_here nodes k v vs there in
+        let tables' = subst (λ ns. Each (λ t n. IsSourceTable (node_at nodes n) (arc_value t)) xs (numbers_of true (suc k) ns)) there tables in
+        let ops' = subst (λ ns. Each (λ op n. meaning (arc_value op) ≡ meaning_at nodes batch n) ys (numbers_of false (suc k) ns)) there ops in
+        record {
+          size = size;
+          source = λ e.
+              let is : is_source v.kind ≡ true = ap (λ (u : Node). is_source u.kind) (sym node) ∙ e in
+              let some = each_there (λ t n. IsSourceTable (node_at nodes n) (arc_value t)) (is_source v.kind) (suc k) (numbers_of true (suc (suc k)) vs) xs tables' is in
+              let d = some_of 0 xs some in (
+                arc_value (slice_index_or xs 0 d),
+                each_here (λ t n. IsSourceTable (node_at nodes n) (arc_value t)) (is_source v.kind) (suc k) (numbers_of true (suc (suc k)) vs) xs d tables' is,
+                sym (ap (λ j. at_or [] j (tables_of nodes ts)) (let j : suc k - 1 ≡ k = omega arith in j) ∙ (table_there nodes ts (rows_of_tables xs) k v vs there so_far ∙ first_rows (is_source v.kind) xs d is some)),
+                table_shares is d,
+              );
+          other = λ e.
+              let is : is_source v.kind ≡ false = ap (λ (u : Node). is_source u.kind) (sym node) ∙ e in
+              let is' = not_true_is (is_source v.kind) is in
+              let some = each_there (λ op n. meaning (arc_value op) ≡ meaning_at nodes batch n) (not (is_source v.kind)) (suc k) (numbers_of false (suc (suc k)) vs) ys ops' is' in
+              let d = some_of 0 ys some in (
+                arc_value (slice_index_or ys 0 d),
+                each_here (λ op n. meaning (arc_value op) ≡ meaning_at nodes batch n) (not (is_source v.kind)) (suc k) (numbers_of false (suc (suc k)) vs) ys d ops' is',
+                part_shares is d,
+              );
+        }

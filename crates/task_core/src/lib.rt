@@ -8,6 +8,7 @@ mod due;
 mod failing;
 mod infos;
 mod legal;
+mod opening;
 mod outcome;
 mod putting;
 mod queue;
