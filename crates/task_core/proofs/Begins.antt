@@ -17,12 +17,12 @@ use Rattle.plan_nodes.specs.declared.node.NodeKind.TheVariants.{Source, Filter, 
 use Rattle.plan_nodes.specs.Kinds.{kind_meaning, is_source}
 use Rattle.plan_nodes.specs.Plans.{node_at, machine_node_at, meaning_at, input_kinds, tables_of}
 use Rattle.task_work.specs.declared.work.Waiting.{Waiting}
-use Rattle.task_core.specs.declared.queue.Queue.{Queue}
-use Rattle.task_core.specs.declared.stage.Stage.{Stage}
-use Rattle.task_core.specs.declared.stage.NodeInfo.{NodeInfo}
-use Rattle.task_core.specs.declared.stage.Flight.{Flight}
-use Rattle.task_core.specs.Told.{Given, plan_of, site_of}
-use Rattle.task_core.specs.Openings.{info_of, stage_of}
+use Rattle.plan_store.specs.declared.queue.Queue.{Queue}
+use Rattle.plan_store.specs.declared.stage.Stage.{Stage}
+use Rattle.plan_store.specs.declared.stage.NodeInfo.{NodeInfo}
+use Rattle.plan_store.specs.declared.stage.Flight.{Flight}
+use Rattle.plan_store.specs.Told.{Given, plan_of, site_of}
+use Rattle.plan_store.specs.Openings.{info_of, stage_of}
 use Rattle.task_core.specs.Stored.{InfoIs, StageIs, QueueIs, SeatIs, in_flight, goes_on, waiting_item}
 
 -- a node by its number, as the element at its place

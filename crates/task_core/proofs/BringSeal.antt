@@ -28,15 +28,15 @@ use Rattle.task_work.specs.declared.work.Share.TheVariants as share
 use Rattle.task_work.specs.declared.work.Part.{Part}
 use Rattle.task_work.specs.declared.work.Fruit.TheVariants as fruit
 use Rattle.task_work.specs.Work.{IsPart, IsRow, IsCount}
-use Rattle.task_core.specs.declared.queue.Queue.{Queue}
-use Rattle.task_core.specs.declared.stage.Stage.{Stage}
-use Rattle.task_core.specs.declared.stage.NodeInfo.{NodeInfo}
-use Rattle.task_core.specs.declared.stage.Flight.{Flight}
-use Rattle.task_core.specs.Told.{Given, plan_of, site_of}
+use Rattle.plan_store.specs.declared.queue.Queue.{Queue}
+use Rattle.plan_store.specs.declared.stage.Stage.{Stage}
+use Rattle.plan_store.specs.declared.stage.NodeInfo.{NodeInfo}
+use Rattle.plan_store.specs.declared.stage.Flight.{Flight}
+use Rattle.plan_store.specs.Told.{Given, plan_of, site_of}
 use Rattle.task_core.specs.Stored.{Held, InfoIs, StageIs, PartStands, Stands}
 use Rattle.task_core.specs.Stages.{less_busy}
 use Rattle.task_core.specs.Delivering.{in_phase}
-use Rattle.task_core.proofs.Held.{some_of}
+use Rattle.plan_store.proofs.At.{some_of}
 use Rattle.task_core.proofs.Known.{known}
 use Rattle.task_core.proofs.Delivering.{site_workers, RowAt, stage_landed, departing}
 use Rattle.task_core.proofs.Landed.{Lands, lands, after_landed}

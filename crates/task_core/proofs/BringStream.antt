@@ -28,15 +28,16 @@ use Rattle.task_work.specs.declared.work.Part.{Part}
 use Rattle.task_work.specs.declared.work.Waiting.{Waiting}
 use Rattle.task_work.specs.declared.work.Fruit.TheVariants as fruit
 use Rattle.task_work.specs.Work.{IsPart}
-use Rattle.task_core.specs.declared.queue.Queue.{Queue}
-use Rattle.task_core.specs.declared.stage.Stage.{Stage}
-use Rattle.task_core.specs.declared.stage.NodeInfo.{NodeInfo}
-use Rattle.task_core.specs.declared.stage.Flight.{Flight}
-use Rattle.task_core.specs.Told.{Given, plan_of, site_of}
+use Rattle.plan_store.specs.declared.queue.Queue.{Queue}
+use Rattle.plan_store.specs.declared.stage.Stage.{Stage}
+use Rattle.plan_store.specs.declared.stage.NodeInfo.{NodeInfo}
+use Rattle.plan_store.specs.declared.stage.Flight.{Flight}
+use Rattle.plan_store.specs.Told.{Given, plan_of, site_of}
 use Rattle.task_core.specs.Stored.{Held, InfoIs, QueueIs, PartStands, takes_all, goes_on, Stands}
 use Rattle.task_core.specs.Stages.{less_busy}
 use Rattle.task_core.specs.Delivering.{IsGrown, HasRoom}
-use Rattle.task_core.proofs.Held.{held_map, some_of}
+use Rattle.task_core.proofs.Held.{held_map}
+use Rattle.plan_store.proofs.At.{some_of}
 use Rattle.task_core.proofs.Delivering.{AllQueues, peaks, peak_stays}
 use Rattle.task_core.proofs.Landed.{Lands, lands, after_landed, put_at}
 use Rattle.task_core.proofs.Bringing.{Brings, BringsAt, placed}

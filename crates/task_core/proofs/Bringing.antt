@@ -10,13 +10,13 @@ use Rattle.plan_machine.specs.History.{IsHistory, state_after}
 use Rattle.plan_nodes.specs.Operators.{OpMeaning}
 use Rattle.task_work.specs.declared.work.Fruit.{Fruit}
 use Rattle.task_work.specs.Work.{IsFruit}
-use Rattle.task_core.specs.Told.{Told, Given, plan_of, state_of, site_of}
+use Rattle.plan_store.specs.Told.{Told, Given, plan_of, state_of, site_of}
 use Rattle.task_core.specs.Calls.{IsDue}
 use Rattle.task_work.specs.declared.work.Share.{Share}
-use Rattle.task_core.specs.declared.queue.Queue.{Queue}
-use Rattle.task_core.specs.declared.stage.Stage.{Stage}
-use Rattle.task_core.specs.declared.stage.NodeInfo.{NodeInfo}
-use Rattle.task_core.specs.declared.stage.Flight.{Flight}
+use Rattle.plan_store.specs.declared.queue.Queue.{Queue}
+use Rattle.plan_store.specs.declared.stage.Stage.{Stage}
+use Rattle.plan_store.specs.declared.stage.NodeInfo.{NodeInfo}
+use Rattle.plan_store.specs.declared.stage.Flight.{Flight}
 use Rattle.task_core.specs.Stored.{Stands}
 use Rattle.task_core.specs.Delivering.{is_dropped, HasPlace}
 use Rattle.task_core.proofs.Seated.{seated}

@@ -21,11 +21,11 @@ use Rattle.plan_nodes.specs.Operators.{OpMeaning}
 use Rattle.plan_nodes.specs.Kinds.{kind_meaning}
 use Rattle.plan_nodes.specs.Plans.{node_at, input_kinds, machine_node_at}
 use Rattle.task_work.specs.declared.work.Share.{Share}
-use Rattle.task_core.specs.declared.queue.Queue.{Queue}
-use Rattle.task_core.specs.declared.stage.Stage.{Stage}
-use Rattle.task_core.specs.declared.stage.NodeInfo.{NodeInfo}
-use Rattle.task_core.specs.declared.stage.Flight.{Flight}
-use Rattle.task_core.specs.Told.{Given, plan_of, site_of}
+use Rattle.plan_store.specs.declared.queue.Queue.{Queue}
+use Rattle.plan_store.specs.declared.stage.Stage.{Stage}
+use Rattle.plan_store.specs.declared.stage.NodeInfo.{NodeInfo}
+use Rattle.plan_store.specs.declared.stage.Flight.{Flight}
+use Rattle.plan_store.specs.Told.{Given, plan_of, site_of}
 use Rattle.task_core.specs.Stored.{Stands, StageIs, InfoIs}
 use Rattle.task_core.specs.Choosing.{job_by, input_by, number_by, NoJob, IsFirstJob, IsFirstWork}
 use Rattle.task_core.proofs.Held.{held_at}

@@ -22,14 +22,14 @@ use Rattle.plan_machine.proofs.Flight.{none-flying}
 use Rattle.plan_nodes.specs.Operators.{OpMeaning}
 use Rattle.task_work.specs.declared.work.Share.{Share}
 use Rattle.task_work.specs.declared.work.Waiting.{Waiting}
-use Rattle.task_core.specs.declared.queue.Queue.{Queue}
-use Rattle.task_core.specs.declared.stage.Stage.{Stage}
-use Rattle.task_core.specs.declared.stage.NodeInfo.{NodeInfo}
-use Rattle.task_core.specs.declared.stage.Flight.{Flight}
-use Rattle.task_core.specs.Told.{Told, plan_of, state_of, site_of}
+use Rattle.plan_store.specs.declared.queue.Queue.{Queue}
+use Rattle.plan_store.specs.declared.stage.Stage.{Stage}
+use Rattle.plan_store.specs.declared.stage.NodeInfo.{NodeInfo}
+use Rattle.plan_store.specs.declared.stage.Flight.{Flight}
+use Rattle.plan_store.specs.Told.{Told, plan_of, state_of, site_of}
 use Rattle.task_core.specs.Stored.{Stands, QueueIs, IsWaiting, waiting_item, goes_on, takes_all}
 use Rattle.task_core.specs.Claiming.{gives_next, takes_batch, with_task, IsEntering, IsShortened, reads_from, IsShareOf, IsRowOf, IsOldest}
-use Rattle.task_core.proofs.Held.{some_of}
+use Rattle.plan_store.proofs.At.{some_of}
 use Rattle.task_core.proofs.Delivering.{site_workers}
 use Rattle.task_core.proofs.Claiming.{share_at, row_whole, idle_at, entering_at, after_one, after_batch, after_all, within, oldest}
 

@@ -17,15 +17,16 @@ use Rattle.plan_machine.specs.History.{IsHistory, state_after, peak}
 use Rattle.plan_machine.proofs.Flight.{flying}
 use Rattle.plan_nodes.specs.Operators.{OpMeaning}
 use Rattle.task_work.specs.declared.work.Share.{Share}
-use Rattle.task_core.specs.declared.queue.Queue.{Queue}
-use Rattle.task_core.specs.declared.stage.Stage.{Stage}
-use Rattle.task_core.specs.declared.stage.NodeInfo.{NodeInfo}
-use Rattle.task_core.specs.declared.stage.Flight.{Flight}
-use Rattle.task_core.specs.Told.{Given, plan_of, site_of}
+use Rattle.plan_store.specs.declared.queue.Queue.{Queue}
+use Rattle.plan_store.specs.declared.stage.Stage.{Stage}
+use Rattle.plan_store.specs.declared.stage.NodeInfo.{NodeInfo}
+use Rattle.plan_store.specs.declared.stage.Flight.{Flight}
+use Rattle.plan_store.specs.Told.{Given, plan_of, site_of}
 use Rattle.task_core.specs.Stored.{Held, StageIs, QueueIs, RowIs, is_live, goes_on, Stored, Stands}
 use Rattle.task_core.specs.Stages.{less_busy}
 use Rattle.task_core.specs.Delivering.{IsDeparting}
-use Rattle.task_core.proofs.Held.{held_set, held_map, some_of}
+use Rattle.task_core.proofs.Held.{held_set, held_map}
+use Rattle.plan_store.proofs.At.{some_of}
 use Rattle.task_core.proofs.Growing.{peak_covers, with_most, standing}
 use Rattle.task_core.proofs.Seated.{seated}
 use Rattle.task_core.proofs.Landing.{Tasks, seat_left, flying_left, row_left, flight_less, stages_landed}

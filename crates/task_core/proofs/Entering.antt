@@ -15,11 +15,11 @@ use Rattle.plan_machine.proofs.Flight.{flying, flying-more, flying-same, on_node
 use Rattle.plan_nodes.specs.Operators.{OpMeaning}
 use Rattle.task_work.specs.Sites.{Site}
 use Rattle.task_work.specs.declared.work.Share.{Share}
-use Rattle.task_core.specs.declared.queue.Queue.{Queue}
-use Rattle.task_core.specs.declared.stage.Stage.{Stage}
-use Rattle.task_core.specs.declared.stage.NodeInfo.{NodeInfo}
-use Rattle.task_core.specs.declared.stage.Flight.{Flight}
-use Rattle.task_core.specs.Told.{Given, plan_of, site_of}
+use Rattle.plan_store.specs.declared.queue.Queue.{Queue}
+use Rattle.plan_store.specs.declared.stage.Stage.{Stage}
+use Rattle.plan_store.specs.declared.stage.NodeInfo.{NodeInfo}
+use Rattle.plan_store.specs.declared.stage.Flight.{Flight}
+use Rattle.plan_store.specs.Told.{Given, plan_of, site_of}
 use Rattle.task_core.specs.Stored.{Held, Stored, StageIs, QueueIs, SeatIs, goes_on, in_flight, takes_all, AllAway, Away, SlotStands, SlotIs, RowIs}
 use Rattle.task_core.specs.Claiming.{with_task, next_by}
 use Rattle.task_core.proofs.Held.{held_set}

@@ -19,16 +19,17 @@ use Rattle.plan_nodes.specs.Operators.{OpMeaning}
 use Rattle.task_work.specs.Sites.{Site}
 use Rattle.task_work.specs.declared.work.Share.{Share}
 use Rattle.task_work.specs.declared.work.Share.TheVariants as share
-use Rattle.task_core.specs.declared.queue.Queue.{Queue}
-use Rattle.task_core.specs.declared.stage.Stage.{Stage}
-use Rattle.task_core.specs.declared.stage.NodeInfo.{NodeInfo}
-use Rattle.task_core.specs.declared.stage.Flight.{Flight}
-use Rattle.task_core.specs.Told.{Given, plan_of, site_of}
+use Rattle.plan_store.specs.declared.queue.Queue.{Queue}
+use Rattle.plan_store.specs.declared.stage.Stage.{Stage}
+use Rattle.plan_store.specs.declared.stage.NodeInfo.{NodeInfo}
+use Rattle.plan_store.specs.declared.stage.Flight.{Flight}
+use Rattle.plan_store.specs.Told.{Given, plan_of, site_of}
 use Rattle.task_core.specs.Known.{Known}
 use Rattle.task_core.specs.Stored.{Stored, Stands, StageIs, RowIs, SlotStands, PartStands, is_live}
 use Rattle.task_core.specs.Stages.{ended}
 use Rattle.std.proofs.lemmas.List.{length-set}
-use Rattle.task_core.proofs.Held.{held_set, held_else, some_of}
+use Rattle.task_core.proofs.Held.{held_set, held_else}
+use Rattle.plan_store.proofs.At.{some_of}
 use Rattle.task_core.proofs.Growing.{with_most, standing}
 use Rattle.task_core.proofs.Pausing.{most_stays}
 use Rattle.task_core.proofs.Known.{known}

@@ -18,15 +18,15 @@ use Rattle.plan_machine.specs.WellFormed.{Lawful, WellFormed}
 use Rattle.plan_machine.proofs.Steps.{run, good-opening}
 use Rattle.plan_nodes.specs.Operators.{OpMeaning, item}
 use Rattle.task_work.specs.declared.work.Share.{Share}
-use Rattle.task_core.specs.declared.queue.Queue.{Queue}
-use Rattle.task_core.specs.declared.stage.Stage.{Stage}
-use Rattle.task_core.specs.declared.stage.NodeInfo.{NodeInfo}
-use Rattle.task_core.specs.declared.stage.Flight.{Flight}
-use Rattle.task_core.specs.Told.{Given, plan_of, site_of}
+use Rattle.plan_store.specs.declared.queue.Queue.{Queue}
+use Rattle.plan_store.specs.declared.stage.Stage.{Stage}
+use Rattle.plan_store.specs.declared.stage.NodeInfo.{NodeInfo}
+use Rattle.plan_store.specs.declared.stage.Flight.{Flight}
+use Rattle.plan_store.specs.Told.{Given, plan_of, site_of}
 use Rattle.task_core.specs.Stored.{PartStands, takes_all, goes_on, Stands}
 use Rattle.task_core.specs.Stages.{less_busy}
 use Rattle.task_core.specs.Delivering.{IsGrown, HasRoom}
-use Rattle.task_core.proofs.Held.{some_of}
+use Rattle.plan_store.proofs.At.{some_of}
 use Rattle.task_core.proofs.Delivering.{peaks, peak_stays}
 use Rattle.task_core.proofs.Landed.{Lands, put_at}
 use Rattle.task_core.proofs.Queueing.{queues_back, room_at, fewer_wait}

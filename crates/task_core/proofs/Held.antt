@@ -5,11 +5,6 @@ use Rattle.plan_machine.proofs.Weigh.{same_or}
 use Rattle.std.proofs.lemmas.List.{get_or-set_same, get_or-set_other, length-set}
 use Rattle.task_core.specs.Stored.{Held}
 
--- an element of a list that has one
-pub some_of : {B : Type 0} (p : ℕ) (xs : List B) → p < length xs → B
-some_of p [] lt = absurd (let no : ⊥ = omega arith in no)
-some_of p (x ∷ xs) lt = x
-
 module _ {B : Type 0} where
   pub held_map : (R R' : ℕ → B → Type 0) (xs : List B) → Held R xs → ((n : ℕ) (y : B) → R n y → R' n y) → Held R' xs
   held_map R R' xs h f k d lt = f (suc k) (slice_index_or xs k d) (h k d lt)

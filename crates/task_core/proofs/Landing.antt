@@ -14,8 +14,8 @@ use Rattle.plan_machine.proofs.Flight.{flying, flying-less, flying-same, on_node
 use Rattle.plan_nodes.specs.Operators.{OpMeaning}
 use Rattle.task_work.specs.Sites.{Site}
 use Rattle.task_work.specs.declared.work.Share.{Share}
-use Rattle.task_core.specs.declared.stage.Stage.{Stage}
-use Rattle.task_core.specs.declared.stage.Flight.{Flight}
+use Rattle.plan_store.specs.declared.stage.Stage.{Stage}
+use Rattle.plan_store.specs.declared.stage.Flight.{Flight}
 use Rattle.task_core.specs.Stored.{Held, StageIs, SeatIs, in_flight, takes_all, AllAway, Away, PartStands, SlotStands, SlotIs, RowIs, is_live}
 use Rattle.task_core.proofs.Held.{held_set}
 

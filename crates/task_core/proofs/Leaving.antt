@@ -18,15 +18,16 @@ use Rattle.plan_machine.proofs.Cost.{sum-upd}
 use Rattle.plan_nodes.specs.Operators.{OpMeaning}
 use Rattle.task_work.specs.Sites.{Site}
 use Rattle.task_work.specs.declared.work.Share.{Share}
-use Rattle.task_core.specs.declared.queue.Queue.{Queue}
-use Rattle.task_core.specs.declared.stage.Stage.{Stage}
-use Rattle.task_core.specs.declared.stage.NodeInfo.{NodeInfo}
-use Rattle.task_core.specs.declared.stage.Flight.{Flight}
-use Rattle.task_core.specs.Told.{Given, plan_of, site_of}
+use Rattle.plan_store.specs.declared.queue.Queue.{Queue}
+use Rattle.plan_store.specs.declared.stage.Stage.{Stage}
+use Rattle.plan_store.specs.declared.stage.NodeInfo.{NodeInfo}
+use Rattle.plan_store.specs.declared.stage.Flight.{Flight}
+use Rattle.plan_store.specs.Told.{Given, plan_of, site_of}
 use Rattle.task_core.specs.Stored.{Stored, Stands, StageIs, RowIs, SeatIs, in_flight}
 use Rattle.task_core.specs.Stages.{less_busy}
 use Rattle.std.proofs.lemmas.List.{length-set}
-use Rattle.task_core.proofs.Held.{held_set, held_map, some_of}
+use Rattle.task_core.proofs.Held.{held_set, held_map}
+use Rattle.plan_store.proofs.At.{some_of}
 use Rattle.task_core.proofs.Growing.{with_most, standing}
 use Rattle.task_core.proofs.Pausing.{most_stays}
 use Rattle.task_core.proofs.Seated.{seated}

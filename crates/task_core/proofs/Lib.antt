@@ -15,8 +15,6 @@ pub mod Entering
 pub mod Claiming
 pub mod Claimed
 pub mod Working
-pub mod At
-pub mod Tables
 pub mod Outcomes
 pub mod Dues
 pub mod Allowed
@@ -34,7 +32,5 @@ pub mod BringSeal
 pub mod BringClose
 pub mod Streamed
 pub mod BringStream
-pub mod Pushed
 pub mod Begins
-pub mod RowsBegin
 pub mod Opened

@@ -27,13 +27,13 @@ use Rattle.task_work.specs.declared.work.Part.{Part}
 use Rattle.task_work.specs.declared.work.Share.{Share}
 use Rattle.task_work.specs.declared.work.Share.TheVariants as share
 use Rattle.task_work.specs.Work as work
-use Rattle.task_core.specs.declared.queue.Queue.{Queue}
-use Rattle.task_core.specs.declared.stage.Stage.{Stage}
-use Rattle.task_core.specs.declared.stage.NodeInfo.{NodeInfo}
-use Rattle.task_core.specs.declared.stage.Flight.{Flight}
-use Rattle.task_core.specs.Told.{Given, plan_of, site_of}
-use Rattle.task_core.specs.Openings.{info_of, stage_of}
-use Rattle.task_core.specs.Shares.{IsTableShare, IsPartShare, IsFreshPart, RowOpens, RowsOpen}
+use Rattle.plan_store.specs.declared.queue.Queue.{Queue}
+use Rattle.plan_store.specs.declared.stage.Stage.{Stage}
+use Rattle.plan_store.specs.declared.stage.NodeInfo.{NodeInfo}
+use Rattle.plan_store.specs.declared.stage.Flight.{Flight}
+use Rattle.plan_store.specs.Told.{Given, plan_of, site_of}
+use Rattle.plan_store.specs.Openings.{info_of, stage_of}
+use Rattle.plan_store.specs.Shares.{IsTableShare, IsPartShare, IsFreshPart, RowOpens, RowsOpen}
 use Rattle.task_core.specs.Stored.{Stored, Stands, Bounding, SlotIs, RowIs, Away, QueueIs, goes_on}
 use Rattle.task_core.proofs.Begins.{at_is, info_opens, stage_opens, queue_opens, seat_opens, none_in_flight}
 

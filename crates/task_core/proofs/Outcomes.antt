@@ -16,13 +16,13 @@ use Rattle.plan_machine.proofs.Sums.{sum_same}
 use Rattle.plan_machine.proofs.Weigh.{same_or}
 use Rattle.plan_nodes.specs.Operators.{OpMeaning}
 use Rattle.task_work.specs.declared.work.Share.{Share}
-use Rattle.task_core.specs.declared.queue.Queue.{Queue}
-use Rattle.task_core.specs.declared.setting.Ending.{Ending}
-use Rattle.task_core.specs.declared.setting.Ending.TheVariants.{Running, Ended, Failed}
-use Rattle.task_core.specs.declared.stage.Stage.{Stage}
-use Rattle.task_core.specs.declared.stage.NodeInfo.{NodeInfo}
-use Rattle.task_core.specs.declared.stage.Flight.{Flight}
-use Rattle.task_core.specs.Told.{Given, plan_of}
+use Rattle.plan_store.specs.declared.queue.Queue.{Queue}
+use Rattle.plan_store.specs.declared.setting.Ending.{Ending}
+use Rattle.plan_store.specs.declared.setting.Ending.TheVariants.{Running, Ended, Failed}
+use Rattle.plan_store.specs.declared.stage.Stage.{Stage}
+use Rattle.plan_store.specs.declared.stage.NodeInfo.{NodeInfo}
+use Rattle.plan_store.specs.declared.stage.Flight.{Flight}
+use Rattle.plan_store.specs.Told.{Given, plan_of}
 use Rattle.task_core.specs.Stored.{Stands, in_flight}
 use Rattle.task_core.specs.Outcome.{ending_by}
 

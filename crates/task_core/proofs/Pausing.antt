@@ -13,15 +13,16 @@ use Rattle.plan_machine.specs.History.{state_after, peak}
 use Rattle.plan_machine.proofs.Weigh.{upd-here, upd-else}
 use Rattle.plan_nodes.specs.Operators.{OpMeaning}
 use Rattle.task_work.specs.declared.work.Share.{Share}
-use Rattle.task_core.specs.declared.queue.Queue.{Queue}
-use Rattle.task_core.specs.declared.stage.Stage.{Stage}
-use Rattle.task_core.specs.declared.stage.NodeInfo.{NodeInfo}
-use Rattle.task_core.specs.declared.stage.Flight.{Flight}
-use Rattle.task_core.specs.Told.{Given, plan_of, site_of}
+use Rattle.plan_store.specs.declared.queue.Queue.{Queue}
+use Rattle.plan_store.specs.declared.stage.Stage.{Stage}
+use Rattle.plan_store.specs.declared.stage.NodeInfo.{NodeInfo}
+use Rattle.plan_store.specs.declared.stage.Flight.{Flight}
+use Rattle.plan_store.specs.Told.{Given, plan_of, site_of}
 use Rattle.task_core.specs.Stored.{Stored, Stands, QueueIs, goes_on}
-use Rattle.task_core.specs.Queues.{with_paused}
+use Rattle.plan_store.specs.Queues.{with_paused}
 use Rattle.std.proofs.lemmas.List.{length-set}
-use Rattle.task_core.proofs.Held.{held_set, some_of}
+use Rattle.task_core.proofs.Held.{held_set}
+use Rattle.plan_store.proofs.At.{some_of}
 use Rattle.task_core.proofs.Growing.{peak_covers, with_most, standing}
 
 queue_paused : (columns : List ColType) (may : Bool) (places : ℕ) (waiting : List (Batch (List Value))) (paused paused' : Bool) (most : ℕ) (q : Queue)

@@ -18,7 +18,7 @@ use Rattle.plan_machine.proofs.Weigh.{upd-here, upd-else}
 use Rattle.plan_machine.proofs.DriverHistory.{grows}
 use Rattle.plan_machine.proofs.BoundLoad.{bounded_history}
 use Rattle.task_work.specs.declared.work.Waiting.{Waiting}
-use Rattle.task_core.specs.declared.queue.Queue.{Queue}
+use Rattle.plan_store.specs.declared.queue.Queue.{Queue}
 use Rattle.task_core.specs.Stored.{Held, QueueIs, IsWaiting, waiting_item}
 use Rattle.task_core.specs.Delivering.{IsGrown, HasRoom}
 use Rattle.task_core.proofs.Held.{held_set}

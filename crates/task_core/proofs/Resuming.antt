@@ -10,14 +10,14 @@ use Rattle.plan_machine.specs.After.{after}
 use Rattle.plan_machine.specs.History.{state_after}
 use Rattle.plan_nodes.specs.Operators.{OpMeaning}
 use Rattle.task_work.specs.declared.work.Share.{Share}
-use Rattle.task_core.specs.declared.queue.Queue.{Queue}
-use Rattle.task_core.specs.declared.stage.Stage.{Stage}
-use Rattle.task_core.specs.declared.stage.NodeInfo.{NodeInfo}
-use Rattle.task_core.specs.declared.stage.Flight.{Flight}
-use Rattle.task_core.specs.Told.{Given, plan_of}
+use Rattle.plan_store.specs.declared.queue.Queue.{Queue}
+use Rattle.plan_store.specs.declared.stage.Stage.{Stage}
+use Rattle.plan_store.specs.declared.stage.NodeInfo.{NodeInfo}
+use Rattle.plan_store.specs.declared.stage.Flight.{Flight}
+use Rattle.plan_store.specs.Told.{Given, plan_of}
 use Rattle.task_core.specs.Stored.{Stands}
-use Rattle.task_core.specs.Queues.{with_paused}
-use Rattle.task_core.proofs.Held.{some_of}
+use Rattle.plan_store.specs.Queues.{with_paused}
+use Rattle.plan_store.proofs.At.{some_of}
 use Rattle.task_core.proofs.Growing.{with_most, standing}
 use Rattle.task_core.proofs.Pausing.{stored_paused, most_stays}
 

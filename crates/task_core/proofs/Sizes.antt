@@ -6,7 +6,7 @@ use Rattle.plan_nodes.specs.declared.node.NodeKind.TheVariants.{Source, Filter, 
 use Rattle.plan_nodes.specs.Operators.{size_of}
 use Rattle.plan_nodes.specs.Kinds.{kind_meaning}
 use Rattle.plan_nodes.specs.Plans.{machine_node_at, node_at, input_kinds}
-use Rattle.task_core.specs.Told.{Given, plan_of, site_of}
+use Rattle.plan_store.specs.Told.{Given, plan_of, site_of}
 
 tails_sized : (kind : NodeKind) (inputs : List (List ColType)) (batch : ℕ) → (kind_meaning kind inputs batch).shape.tails ≡ true → size_of (kind_meaning kind inputs batch) ≡ batch
 tails_sized (Source name) inputs batch e = cc

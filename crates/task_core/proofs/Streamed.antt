@@ -15,8 +15,8 @@ use Rattle.plan_nodes.specs.Plans.{machine_node_at, node_at, input_at}
 use Rattle.task_work.specs.Sites.{Site}
 use Rattle.task_work.specs.declared.work.Waiting.{Waiting}
 use Rattle.task_work.specs.Work.{IsOut, IsRest}
-use Rattle.task_core.specs.declared.queue.Queue.{Queue}
-use Rattle.task_core.specs.Told.{Given, plan_of, site_of}
+use Rattle.plan_store.specs.declared.queue.Queue.{Queue}
+use Rattle.plan_store.specs.Told.{Given, plan_of, site_of}
 use Rattle.task_core.specs.Stored.{waiting_item, goes_on}
 use Rattle.task_core.specs.Delivering.{HasRoom}
 use Rattle.task_core.proofs.Sizes.{size_cuts}

@@ -20,11 +20,11 @@ use Rattle.task_work.specs.declared.work.Share.{Share}
 use Rattle.task_work.specs.declared.work.Share.TheVariants as share
 use Rattle.task_work.specs.declared.work.Part.{Part}
 use Rattle.task_work.specs.Work.{IsPart, IsPartOf, IsRow}
-use Rattle.task_core.specs.declared.queue.Queue.{Queue}
-use Rattle.task_core.specs.declared.stage.Stage.{Stage}
-use Rattle.task_core.specs.declared.stage.NodeInfo.{NodeInfo}
-use Rattle.task_core.specs.declared.stage.Flight.{Flight}
-use Rattle.task_core.specs.Told.{Given, plan_of}
+use Rattle.plan_store.specs.declared.queue.Queue.{Queue}
+use Rattle.plan_store.specs.declared.stage.Stage.{Stage}
+use Rattle.plan_store.specs.declared.stage.NodeInfo.{NodeInfo}
+use Rattle.plan_store.specs.declared.stage.Flight.{Flight}
+use Rattle.plan_store.specs.Told.{Given, plan_of}
 use Rattle.task_core.specs.Stored.{StageIs, RowIs, PartStands, SlotStands, Stands}
 use Rattle.task_core.proofs.Growing.{with_most}
 use Rattle.task_core.proofs.Landing.{Tasks}

@@ -38,7 +38,7 @@ use Rattle.task_work.specs.declared.work.Share.TheVariants as share
 use Rattle.task_work.specs.declared.work.Work.TheVariants as work
 use Rattle.task_work.specs.declared.work.Waiting.{Waiting}
 use Rattle.task_work.specs.Work.{IsTable, IsShared, IsPart, IsPartOf, IsRow, IsFolded, IsStreamed}
-use Rattle.task_core.specs.Told.{Given, Told, plan_of, state_of, site_of, with_entry}
+use Rattle.plan_store.specs.Told.{Given, Told, plan_of, state_of, site_of, with_entry}
 use Rattle.task_core.specs.Stored.{PartStands, IsWaiting, waiting_item, goes_on}
 use Rattle.task_core.specs.Claiming.{reads_from, IsShareOf, IsRowOf, IsOldest, IsWorkOf}
 use Rattle.task_core.proofs.Choosing.{and_left, and_right}

@@ -21,11 +21,11 @@ use Rattle.task_work.specs.declared.work.Share.TheVariants as share
 use Rattle.task_work.specs.declared.work.Work.{Work}
 use Rattle.task_work.specs.declared.work.Work.TheVariants as work
 use Rattle.task_work.specs.declared.work.Waiting.{Waiting}
-use Rattle.task_core.specs.declared.queue.Queue.{Queue}
-use Rattle.task_core.specs.declared.stage.Stage.{Stage}
-use Rattle.task_core.specs.declared.stage.NodeInfo.{NodeInfo}
-use Rattle.task_core.specs.declared.stage.Flight.{Flight}
-use Rattle.task_core.specs.Told.{Told, plan_of, state_of, with_entry}
+use Rattle.plan_store.specs.declared.queue.Queue.{Queue}
+use Rattle.plan_store.specs.declared.stage.Stage.{Stage}
+use Rattle.plan_store.specs.declared.stage.NodeInfo.{NodeInfo}
+use Rattle.plan_store.specs.declared.stage.Flight.{Flight}
+use Rattle.plan_store.specs.Told.{Told, plan_of, state_of, with_entry}
 use Rattle.task_core.specs.Stored.{Stands}
 use Rattle.task_core.specs.Claiming.{IsShareOf, IsRowOf, IsOldest, IsWorkOf, HasTable, HasPart}
 use Rattle.task_core.proofs.Working.{table_there, folded_there, streamed_there, tailed_there, emit_work, fold_work, seal_work, stream_work, close_work, tail_work}

@@ -11,7 +11,7 @@ use Rattle.plan_nodes.specs.Operators.{OpMeaning}
 use Rattle.task_work.specs.declared.work.Work.{Work}
 use Rattle.task_work.specs.declared.work.Fruit.{Fruit}
 use Rattle.task_work.specs.Work.{IsWork, IsFruit}
-use Rattle.task_core.specs.Told.{Told, plan_of, state_of, site_of, with_entry}
+use Rattle.plan_store.specs.Told.{Told, plan_of, state_of, site_of, with_entry}
 
 module _ {O S L : Type 0}
     (meaning : O → OpMeaning)

@@ -21,10 +21,10 @@ use Rattle.task_work.specs.declared.work.Work.{Work}
 use Rattle.task_work.specs.Work.{IsWork}
 use Rattle.plan_machine.specs.State.{Task as MachineTask}
 use Rattle.task_work.specs.declared.work.Waiting.{Waiting}
-use Rattle.task_core.specs.declared.queue.Queue.{Queue}
-use Rattle.task_core.specs.declared.stage.Stage.{Stage}
-use Rattle.task_core.specs.declared.stage.Flight.{Flight}
-use Rattle.task_core.specs.Told.{Told, plan_of, state_of, site_of}
+use Rattle.plan_store.specs.declared.queue.Queue.{Queue}
+use Rattle.plan_store.specs.declared.stage.Stage.{Stage}
+use Rattle.plan_store.specs.declared.stage.Flight.{Flight}
+use Rattle.plan_store.specs.Told.{Told, plan_of, state_of, site_of}
 use Rattle.task_core.specs.Choosing.{input_by}
 use Rattle.task_core.specs.Stored.{PartStands, IsWaiting, waiting_item, goes_on}
 

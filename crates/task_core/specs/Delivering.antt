@@ -7,10 +7,10 @@ use Rattle.plan_machine.specs.declared.entry.Phase.{Phase}
 use Rattle.plan_machine.specs.State.{Task as MachineTask}
 use Rattle.plan_machine.specs.After.{is_done}
 use Rattle.task_work.specs.declared.work.Waiting.{Waiting}
-use Rattle.task_core.specs.declared.queue.Queue.{Queue}
-use Rattle.task_core.specs.declared.stage.Stage.{Stage}
-use Rattle.task_core.specs.declared.stage.Flight.{Flight}
-use Rattle.task_core.specs.Told.{Told, state_of}
+use Rattle.plan_store.specs.declared.queue.Queue.{Queue}
+use Rattle.plan_store.specs.declared.stage.Stage.{Stage}
+use Rattle.plan_store.specs.declared.stage.Flight.{Flight}
+use Rattle.plan_store.specs.Told.{Told, state_of}
 
 -- the worker's task in flight stands at this node
 pub record IsFlying (told : Told) (worker node : ℕ) : Type 0 where

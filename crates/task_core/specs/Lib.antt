@@ -1,6 +1,4 @@
-pub mod Told
 pub mod Stored
-pub mod Queues
 pub mod Stages
 pub mod Outcome
 pub mod Due
@@ -11,5 +9,3 @@ pub mod Calls
 pub mod Known
 pub mod Delivering
 pub mod Opening
-pub mod Openings
-pub mod Shares

@@ -2,8 +2,8 @@
 use Rattle.std.specs.Prelude.{ℕ, Bool, cond, nat_lt}
 use Rattle.plan_machine.specs.declared.entry.Phase.{Phase}
 use Rattle.plan_machine.specs.After.{is_done}
-use Rattle.task_core.specs.declared.setting.Ending.{Ending}
-use Rattle.task_core.specs.declared.setting.Ending.TheVariants.{Running, Ended, Failed}
+use Rattle.plan_store.specs.declared.setting.Ending.{Ending}
+use Rattle.plan_store.specs.declared.setting.Ending.TheVariants.{Running, Ended, Failed}
 
 -- it goes on while anything is in flight, then has failed, or has ended once its sink is Done
 abbrev pub ending_by : ℕ → Bool → Phase → Ending

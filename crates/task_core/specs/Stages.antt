@@ -1,7 +1,7 @@
 -- What the calls on stages leave.
 use Rattle.std.specs.Prelude.{◌-◌}
 use Rattle.plan_machine.specs.declared.entry.Phase.TheVariants.{Done}
-use Rattle.task_core.specs.declared.stage.Stage.{Stage}
+use Rattle.plan_store.specs.declared.stage.Stage.{Stage}
 
 abbrev pub ended : Stage → Stage
 ended st = record st { phase = Done }

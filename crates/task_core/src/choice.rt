@@ -4,13 +4,13 @@ ghost use Rattle.plan_machine.specs.Plan.{IsNode, IsEdge, IsWorker};
 ghost use Rattle.plan_machine.specs.State.{IsEndedEdge};
 ghost use Rattle.plan_machine.specs.Enabled.{CanPause};
 ghost use Rattle.plan_machine.specs.Driver.{IsClaimChoice, NoClaim};
-ghost use Rattle.task_core.specs.Told.{plan_of, state_of};
+ghost use Rattle.plan_store.specs.Told.{plan_of, state_of};
 ghost use Rattle.task_core.specs.Choosing.{job_by, input_by, number_by, NoJob, IsFirstJob, IsFirstWork, NoWork};
 
-use crate::stage::{Flight, NodeInfo, Stage};
 use crate::state::PlanState;
 use plan_machine::{Job, Phase};
 use plan_nodes::Operator;
+use plan_store::{Flight, NodeInfo, Stage};
 
 /// The job that a node's phase allows. `waits` says whether a batch waits on the input that the phase reads, `ended`
 /// whether that input has ended, and `paused` whether the node's own edge is paused.

@@ -2,17 +2,17 @@ ghost use Rattle.std.specs.Prelude.{◌≡◌, ℕ, ◌<◌, ◌≤◌, true, If
 ghost use Rattle.plan_machine.specs.Plan.{IsNode, IsWorker};
 ghost use Rattle.plan_machine.specs.Enabled.{Enabled};
 ghost use Rattle.plan_machine.specs.Driver.{IsClaimChoice, NoClaim};
-ghost use Rattle.task_core.specs.Told.{plan_of, state_of, site_of, with_entry};
+ghost use Rattle.plan_store.specs.Told.{plan_of, state_of, site_of, with_entry};
 ghost use Rattle.task_core.specs.Calls.{Claimed};
 ghost use Rattle.task_core.specs.Stored.{takes_all};
 ghost use Rattle.task_core.specs.Claiming.{gives_next, takes_batch, reads_from, IsShareOf, IsRowOf, IsOldest, IsWorkOf, HasTable, HasPart};
 
 use crate::choice::input_of;
-use crate::stage::Flight;
 use crate::state::PlanState;
 use crate::taking::{enter, take_front, take_row, take_share};
 use plan_machine::{Entry, Job};
 use plan_nodes::Operator;
+use plan_store::Flight;
 use row_table::Table;
 use std::alloc::Global;
 use std::sync::Arc;

@@ -4,7 +4,7 @@ ghost use Rattle.std.specs.Prelude.{◌≡◌, ◌≤◌, true, false};
 ghost use Rattle.plan_machine.specs.declared.entry.Entry.TheVariants as EntryOf;
 ghost use Rattle.plan_machine.specs.Plan.{IsWorker};
 ghost use Rattle.task_work.specs.declared.work.Fruit.TheVariants as FruitOf;
-ghost use Rattle.task_core.specs.Told.{plan_of, state_of, with_entry};
+ghost use Rattle.plan_store.specs.Told.{plan_of, state_of, with_entry};
 ghost use Rattle.task_core.specs.Calls.{IsDue};
 ghost use Rattle.task_core.specs.Delivering.{IsFlying, is_dropped};
 

@@ -2,14 +2,14 @@ ghost use Rattle.std.specs.Prelude.{◌≡◌, ◌↔◌, IsTrue, false, IfSome,
 ghost use Rattle.plan_machine.specs.Plan.{IsNode, IsEdge};
 ghost use Rattle.plan_machine.specs.Enabled.{Enabled, CanResume};
 ghost use Rattle.plan_machine.specs.Driver.{NoUpkeep, NoneOf, IsLowest, IsUpkeepChoice};
-ghost use Rattle.task_core.specs.Told.{plan_of, state_of};
+ghost use Rattle.plan_store.specs.Told.{plan_of, state_of};
 ghost use Rattle.task_core.specs.Due.{finish_by};
 
 use crate::choice::input_of;
-use crate::stage::Stage;
 use crate::state::PlanState;
 use plan_machine::{Entry, Phase};
 use plan_nodes::Operator;
+use plan_store::Stage;
 
 /// Whether a node has nothing left to do. `ended` says whether the input that its phase reads has ended.
 fn may_end(stage: &Stage, tails: bool, ended: bool) -> bool

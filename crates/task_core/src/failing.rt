@@ -1,14 +1,14 @@
 ghost use Rattle.std.specs.Prelude.{◌≡◌, ◌<◌, ◌≤◌, slice_set, slice_index_or, vec_len, Option, Some, None, IsSome};
 ghost use Rattle.plan_machine.specs.Enabled.{Enabled};
-ghost use Rattle.task_core.specs.declared.stage.Stage.{Stage};
-ghost use Rattle.task_core.specs.declared.stage.Flight.{Flight};
+ghost use Rattle.plan_store.specs.declared.stage.Stage.{Stage};
+ghost use Rattle.plan_store.specs.declared.stage.Flight.{Flight};
 ghost use Rattle.task_core.specs.Stages.{less_busy};
-ghost use Rattle.task_core.specs.Told.{plan_of, state_of, with_entry};
+ghost use Rattle.plan_store.specs.Told.{plan_of, state_of, with_entry};
 
-use crate::stage::{Flight, Stage};
 use crate::state::PlanState;
 use plan_machine::Entry;
 use plan_nodes::Operator;
+use plan_store::{Flight, Stage};
 
 /// Takes the task in flight from a seat that has one.
 pub fn leave_seat(seats: &mut Vec<Option<Flight>>, place: usize) -> Flight

@@ -2,14 +2,14 @@ ghost use Rattle.std.specs.Prelude.{◌≡◌, ◌↔◌, ◌<◌, IsTrue, false
 ghost use Rattle.plan_machine.specs.InFlight.{phase_of};
 ghost use Rattle.plan_machine.specs.Plan.{IsNode, IsEdge, IsWorker};
 ghost use Rattle.plan_machine.specs.Enabled.{Enabled, CanDo, HasTask};
-ghost use Rattle.task_core.specs.Told.{plan_of, state_of};
+ghost use Rattle.plan_store.specs.Told.{plan_of, state_of};
 ghost use Rattle.task_core.specs.Legal.{MayDo};
 
 use crate::choice::input_of;
-use crate::stage::Stage;
 use crate::state::PlanState;
 use plan_machine::{Entry, Job, Phase};
 use plan_nodes::Operator;
+use plan_store::Stage;
 
 /// The phase at which a job is done.
 fn phase_for(job: Job) -> Phase

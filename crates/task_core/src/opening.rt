@@ -1,14 +1,11 @@
 ghost use Rattle.std.specs.Prelude.{◌≡◌, ◌≤◌, [], length, IfOk};
 ghost use Rattle.plan_nodes.specs.Plans.{IsPlan};
-ghost use Rattle.task_core.specs.Told.{given_by};
-ghost use Rattle.task_core.specs.Opening.{AreTables, AreOperators, IsSetting};
+ghost use Rattle.plan_store.specs.Told.{given_by};
+ghost use Rattle.plan_store.specs.Beginning.{AreTables, AreOperators, IsSetting};
 
-use crate::infos::infos_of;
-use crate::setting::Setting;
-use crate::shares::rows_of;
-use crate::stages::{queues_of, seats_of, stages_of};
 use crate::state::PlanState;
 use plan_nodes::{Operator, Plan, plans_are_well_formed};
+use plan_store::{Setting, infos_of, queues_of, rows_of, seats_of, stages_of};
 use row_table::Table;
 use scalar_value::{Mem, Seq};
 use std::alloc::Global;

@@ -1,12 +1,12 @@
 ghost use Rattle.std.specs.Prelude.{◌≡◌, ◌↔◌};
 ghost use Rattle.plan_machine.specs.History.{IsEnded, HasFailed};
-ghost use Rattle.task_core.specs.Told.{plan_of, state_of};
+ghost use Rattle.plan_store.specs.Told.{plan_of, state_of};
 ghost use Rattle.task_core.specs.Outcome.{ending_by};
 
-use crate::setting::Ending;
 use crate::state::PlanState;
 use plan_machine::Phase;
 use plan_nodes::Operator;
+use plan_store::Ending;
 
 /// How a run stands with so many tasks in flight, by whether it failed and where its sink stands.
 fn ending_of(flying: usize, failed: bool, sink: Phase) -> Ending

@@ -2,18 +2,17 @@
 
 ghost use Rattle.std.specs.Prelude.{◌≡◌, ◌<◌, ◌-◌, ◌^◌, ◌++◌, [], ◌∷◌, List, length, map, Some, None, Option, slice_set, slice_index_or, vec_len, vec_capacity};
 ghost use Rattle.std.specs.VecDeque.{deque_len, deque_capacity};
-ghost use Rattle.task_core.specs.declared.queue.Queue.{Queue};
-ghost use Rattle.task_core.specs.declared.stage.Stage.{Stage};
-ghost use Rattle.task_core.specs.declared.stage.NodeInfo.{NodeInfo};
+ghost use Rattle.plan_store.specs.declared.queue.Queue.{Queue};
+ghost use Rattle.plan_store.specs.declared.stage.Stage.{Stage};
+ghost use Rattle.plan_store.specs.declared.stage.NodeInfo.{NodeInfo};
 ghost use Rattle.task_work.specs.declared.work.Waiting.{Waiting};
 ghost use Rattle.plan_machine.specs.After.{is_done};
 ghost use Rattle.plan_machine.specs.declared.entry.Entry.TheVariants as EntryOf;
 ghost use Rattle.task_core.specs.Stages.{less_busy};
 ghost use Rattle.task_core.specs.Delivering.{in_phase, IsGrown, IsDeparting, HasPlace, HasSeat, HasRoom};
 
-use crate::queue::Queue;
-use crate::stage::{Flight, NodeInfo, Stage};
 use plan_machine::{Entry, OpShape, Phase};
+use plan_store::{Flight, NodeInfo, Queue, Stage};
 use task_work::{Share, Waiting};
 
 /// Whether a node has ended.

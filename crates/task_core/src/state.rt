@@ -1,12 +1,10 @@
 ghost use Rattle.std.specs.Prelude.{◌≡◌, ◌≤◌};
 ghost use Rattle.plan_machine.specs.Enabled.{Enabled};
-ghost use Rattle.task_core.specs.Told.{Told, plan_of, state_of, with_entry};
+ghost use Rattle.plan_store.specs.Told.{Told, plan_of, state_of, with_entry};
 
-use crate::queue::{Queue, set_paused};
-use crate::setting::Setting;
-use crate::stage::{Flight, NodeInfo, Stage};
 use plan_machine::Entry;
 use plan_nodes::{Operator, Plan};
+use plan_store::{Flight, NodeInfo, Queue, Setting, Stage, set_paused};
 use row_table::Table;
 use scalar_value::Seq;
 use std::alloc::Global;
@@ -35,7 +33,7 @@ impl<O: Operator> Model for PlanState<O> {
     ghost use Rattle.std.specs.Prelude.{map, vec_capacity};
     ghost use Rattle.std.specs.Coded.{codes};
     ghost use Rattle.na_expr.specs.contracts.expr.Expr as expr;
-    ghost use Rattle.task_core.specs.Told.{Told, given_by};
+    ghost use Rattle.plan_store.specs.Told.{Told, given_by};
     ghost use Rattle.task_core.specs.Stored.{Stands};
 
     ghost Value = { Told };

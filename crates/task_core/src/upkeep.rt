@@ -1,14 +1,13 @@
 ghost use Rattle.std.specs.Prelude.{◌≡◌, ◌<◌, ◌≤◌, slice_set, slice_index_or, vec_len};
 ghost use Rattle.plan_machine.specs.Enabled.{Enabled};
-ghost use Rattle.task_core.specs.declared.stage.Stage.{Stage};
+ghost use Rattle.plan_store.specs.declared.stage.Stage.{Stage};
 ghost use Rattle.task_core.specs.Stages.{ended};
-ghost use Rattle.task_core.specs.Told.{plan_of, state_of, with_entry};
+ghost use Rattle.plan_store.specs.Told.{plan_of, state_of, with_entry};
 
-use crate::queue::set_paused;
-use crate::stage::Stage;
 use crate::state::PlanState;
 use plan_machine::{Entry, Phase};
 use plan_nodes::Operator;
+use plan_store::{Stage, set_paused};
 
 /// A node ends.
 fn set_done(stages: &mut Vec<Stage>, place: usize)

@@ -2,7 +2,7 @@ use Rattle.std.proofs.Common.{◌-◌, ◌<◌, length, ◌++◌, [], ◌∷◌,
 use Rattle.std.proofs.lemmas.List.{get_or_read}
 use Rattle.std.specs.VecDeque.{deque_capacity}
 use Rattle.backpressure.specs.Edges.{with_one_more}
-use Rattle.task_core.specs.declared.queue.Queue.{Queue}
+use Rattle.plan_store.specs.declared.queue.Queue.{Queue}
 use Rattle.task_core.proofs.putting.put_back.Goals as goal
 
 pub returns : goal.returns

@@ -1,6 +1,6 @@
 use Rattle.std.proofs.Common.{◌≡◌, ◌-◌, ◌∷◌, Some, sym, subst, ◌∙◌, slice_set, slice_index_or}
 use Rattle.task_work.specs.declared.work.Waiting.{Waiting}
-use Rattle.task_core.specs.declared.queue.Queue.{Queue}
+use Rattle.plan_store.specs.declared.queue.Queue.{Queue}
 use Rattle.task_core.specs.Delivering.{IsGrown}
 use Rattle.task_core.proofs.putting.put_rest.Goals as goal
 

@@ -3,7 +3,7 @@ use Rattle.std.proofs.lemmas.List.{get_or_read}
 use Rattle.std.specs.Option.{option_to_list}
 use Rattle.std.specs.VecDeque.{deque_capacity}
 use Rattle.backpressure.specs.Edges.{with_one_less}
-use Rattle.task_core.specs.declared.queue.Queue.{Queue}
+use Rattle.plan_store.specs.declared.queue.Queue.{Queue}
 use Rattle.task_core.proofs.taking.take_front.Goals as goal
 
 pub returns : goal.returns

@@ -1,5 +1,5 @@
 use Rattle.std.proofs.Common.{sym, ap}
-use Rattle.task_core.specs.Told.{site_of}
+use Rattle.plan_store.specs.Told.{site_of}
 use Rattle.task_core.proofs.state.PlanState.batch_rows.Goals as goal
 
 pub returns : goal.returns

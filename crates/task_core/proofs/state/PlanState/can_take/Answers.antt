@@ -1,4 +1,4 @@
-use Rattle.task_core.specs.Told.{state_of}
+use Rattle.plan_store.specs.Told.{state_of}
 use Rattle.task_core.proofs.Allowed.{claim_is}
 use Rattle.task_core.proofs.state.PlanState.can_take.Goals as goal
 

@@ -1,5 +1,5 @@
 use Rattle.std.proofs.Common.{◌∙◌, sym, ap}
-use Rattle.task_core.specs.Told.{state_of}
+use Rattle.plan_store.specs.Told.{state_of}
 use Rattle.task_core.proofs.Choices.{choice_is}
 use Rattle.task_core.proofs.state.PlanState.choice.Goals as goal
 

@@ -1,9 +1,9 @@
 use Rattle.std.proofs.Common.{◌≡◌, ◌<◌, ◌-◌, List, length, sym, ap, subst, ◌∙◌}
 use Rattle.std.proofs.lemmas.List.{length-set}
 use Rattle.task_work.specs.declared.work.Fruit.TheVariants as fruit
-use Rattle.task_core.specs.Told.{given_by}
-use Rattle.task_core.specs.declared.stage.Stage.{Stage}
-use Rattle.task_core.proofs.Held.{some_of}
+use Rattle.plan_store.specs.Told.{given_by}
+use Rattle.plan_store.specs.declared.stage.Stage.{Stage}
+use Rattle.plan_store.proofs.At.{some_of}
 use Rattle.task_core.proofs.Bringing.{Brings, places}
 use Rattle.task_core.proofs.Delivering.{departing}
 use Rattle.task_core.proofs.BringClose.{close_delivered}

@@ -1,6 +1,6 @@
 use Rattle.std.proofs.Common.{sym, ap, subst}
 use Rattle.task_work.specs.declared.work.Fruit.TheVariants as fruit
-use Rattle.task_core.specs.Told.{given_by}
+use Rattle.plan_store.specs.Told.{given_by}
 use Rattle.task_core.specs.Stored.{takes_all}
 use Rattle.task_core.proofs.Bringing.{Brings}
 use Rattle.task_core.proofs.Delivering.{departing}

@@ -1,5 +1,5 @@
 use Rattle.std.proofs.Common.{◌≡◌, true, sym, subst}
-use Rattle.task_core.specs.Told.{given_by, plan_of}
+use Rattle.plan_store.specs.Told.{given_by, plan_of}
 use Rattle.plan_machine.specs.Plan.{IsWorker}
 use Rattle.task_core.specs.Delivering.{IsFlying, is_dropped}
 use Rattle.task_core.proofs.Delivering.{departing, after_drop}

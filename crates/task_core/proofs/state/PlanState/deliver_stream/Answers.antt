@@ -1,8 +1,8 @@
 use Rattle.std.proofs.Common.{◌≡◌, List, ◌-◌, slice_index_or, sym, ap, subst}
 use Rattle.task_work.specs.declared.work.Fruit.TheVariants as fruit
-use Rattle.task_core.specs.Told.{given_by}
+use Rattle.plan_store.specs.Told.{given_by}
 use Rattle.task_core.specs.Stored.{takes_all}
-use Rattle.task_core.specs.declared.stage.NodeInfo.{NodeInfo}
+use Rattle.plan_store.specs.declared.stage.NodeInfo.{NodeInfo}
 use Rattle.task_core.specs.Delivering.{HasPlace}
 use Rattle.task_core.proofs.Bringing.{Brings, places}
 use Rattle.task_core.proofs.Delivering.{departing}

@@ -1,7 +1,7 @@
 use Rattle.std.proofs.Common.{◌≡◌, ◌<◌, ◌-◌, ◌||◌, Bool, length, sym, ap, subst, ◌∙◌, arith}
 use Rattle.plan_machine.specs.After.{is_done}
-use Rattle.task_core.specs.Told.{given_by, state_of}
-use Rattle.task_core.specs.declared.stage.Stage.{Stage}
+use Rattle.plan_store.specs.Told.{given_by, state_of}
+use Rattle.plan_store.specs.declared.stage.Stage.{Stage}
 use Rattle.task_core.specs.Delivering.{IsFlying, is_dropped}
 use Rattle.task_core.proofs.Delivering.{drops_by}
 use Rattle.task_core.proofs.state.PlanState.drops.Goals as goal

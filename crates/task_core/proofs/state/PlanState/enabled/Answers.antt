@@ -1,6 +1,6 @@
 use Rattle.std.proofs.Common.{◌↔◌, IsTrue, false, sym, subst}
 use Rattle.plan_machine.specs.Enabled.{Enabled}
-use Rattle.task_core.specs.Told.{plan_of, state_of}
+use Rattle.plan_store.specs.Told.{plan_of, state_of}
 use Rattle.task_core.proofs.Allowed.{stop_is}
 use Rattle.task_core.proofs.state.PlanState.enabled.Goals as goal
 

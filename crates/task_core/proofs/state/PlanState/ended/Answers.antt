@@ -1,7 +1,7 @@
 use Rattle.std.proofs.Common.{◌≡◌, ◌↔◌, ◌-◌, subst, arith}
 use Rattle.plan_machine.specs.History.{IsEnded, HasFailed}
-use Rattle.task_core.specs.declared.setting.Ending.TheVariants.{Ended, Failed}
-use Rattle.task_core.specs.Told.{given_by, plan_of, state_of}
+use Rattle.plan_store.specs.declared.setting.Ending.TheVariants.{Ended, Failed}
+use Rattle.plan_store.specs.Told.{given_by, plan_of, state_of}
 use Rattle.task_core.proofs.Outcomes.{ending_is}
 use Rattle.task_core.proofs.state.PlanState.ended.Goals as goal
 

@@ -1,6 +1,6 @@
 use Rattle.std.proofs.Common.{◌≤◌, sym, subst, arith}
 use Rattle.plan_machine.specs.Enabled.{HasTask}
-use Rattle.task_core.specs.Told.{given_by, plan_of, state_of}
+use Rattle.plan_store.specs.Told.{given_by, plan_of, state_of}
 use Rattle.task_core.proofs.Leaving.{task_node, flies, after_fail}
 use Rattle.task_core.proofs.state.PlanState.fail.Goals as goal
 

@@ -1,7 +1,7 @@
 use Rattle.std.proofs.Common.{ℕ, ◌<◌}
 use Rattle.plan_machine.specs.declared.entry.Entry.TheVariants.{Pause}
 use Rattle.plan_machine.specs.Enabled.{Enabled}
-use Rattle.task_core.specs.Told.{plan_of, state_of}
+use Rattle.plan_store.specs.Told.{plan_of, state_of}
 use Rattle.task_core.proofs.state.PlanState.first_pause.Given as goal
 
 abbrev pub invariant-loop-edge : goal.invariant-loop-edge

@@ -1,4 +1,4 @@
-use Rattle.task_core.specs.Told.{plan_of, state_of}
+use Rattle.plan_store.specs.Told.{plan_of, state_of}
 use Rattle.task_core.proofs.Choices.{none_more}
 use Rattle.task_core.proofs.state.PlanState.first_work.Goals as goal
 

@@ -1,6 +1,6 @@
 use Rattle.std.proofs.Common.{ℕ, ◌≤◌}
 use Rattle.plan_machine.specs.Plan.{IsNode}
-use Rattle.task_core.specs.Told.{plan_of, state_of}
+use Rattle.plan_store.specs.Told.{plan_of, state_of}
 use Rattle.task_core.specs.Choosing.{NoJob}
 use Rattle.task_core.proofs.state.PlanState.first_work.Given as goal
 

@@ -1,5 +1,5 @@
 use Rattle.std.proofs.Common.{map, vec_capacity, None, Some, sym, subst, refl, ◌∙◌}
-use Rattle.task_core.specs.Told.{plan_of, state_of}
+use Rattle.plan_store.specs.Told.{plan_of, state_of}
 use Rattle.task_core.specs.Stored.{Stands}
 use Rattle.task_core.proofs.Choices.{input_node, job_stands, number_is}
 use Rattle.task_core.proofs.state.PlanState.job_at.Goals as goal

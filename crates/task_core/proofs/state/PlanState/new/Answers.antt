@@ -6,12 +6,12 @@ use Rattle.plan_machine.specs.Lists.{at_or}
 use Rattle.plan_nodes.specs.declared.node.Node.{Node}
 use Rattle.plan_nodes.specs.declared.node.Plan.{Plan}
 use Rattle.plan_nodes.specs.Plans.{IsPace, tables_of}
-use Rattle.task_core.specs.declared.queue.Queue.{Queue}
-use Rattle.task_core.specs.declared.stage.Stage.{Stage}
-use Rattle.task_core.specs.declared.stage.NodeInfo.{NodeInfo}
-use Rattle.task_core.specs.Told.{given_by, pace_of, rows_of_tables}
-use Rattle.task_core.specs.Openings.{info_of, stage_of}
-use Rattle.task_core.specs.Shares.{RowsOpen}
+use Rattle.plan_store.specs.declared.queue.Queue.{Queue}
+use Rattle.plan_store.specs.declared.stage.Stage.{Stage}
+use Rattle.plan_store.specs.declared.stage.NodeInfo.{NodeInfo}
+use Rattle.plan_store.specs.Told.{given_by, pace_of, rows_of_tables}
+use Rattle.plan_store.specs.Openings.{info_of, stage_of}
+use Rattle.plan_store.specs.Shares.{RowsOpen}
 use Rattle.task_core.specs.Stored.{Stands}
 use Rattle.task_core.proofs.Opened.{stored_opens, stands_opens}
 use Rattle.task_core.proofs.state.PlanState.new.Goals as goal

@@ -1,6 +1,6 @@
 use Rattle.std.proofs.Common.{ℕ, ◌<◌}
 use Rattle.plan_machine.specs.Enabled.{CanPause}
-use Rattle.task_core.specs.Told.{plan_of, state_of}
+use Rattle.plan_store.specs.Told.{plan_of, state_of}
 use Rattle.task_core.proofs.state.PlanState.pause_due.Given as goal
 
 abbrev pub invariant-loop-edge : goal.invariant-loop-edge

@@ -1,7 +1,7 @@
 use Rattle.std.proofs.Common.{◌≤◌, sym, subst, arith}
 use Rattle.plan_machine.specs.Enabled.{Enabled}
 use Rattle.plan_machine.specs.declared.entry.Entry.TheVariants.{Resume}
-use Rattle.task_core.specs.Told.{given_by, plan_of, state_of}
+use Rattle.plan_store.specs.Told.{given_by, plan_of, state_of}
 use Rattle.task_core.proofs.Resuming.{after_resume}
 use Rattle.task_core.proofs.state.PlanState.resume.Goals as goal
 

@@ -1,7 +1,7 @@
 use Rattle.std.proofs.Common.{◌≤◌, sym, subst, arith}
 use Rattle.plan_machine.specs.Enabled.{Enabled}
 use Rattle.plan_machine.specs.declared.entry.Entry.TheVariants.{Claim}
-use Rattle.task_core.specs.Told.{Told, given_by, plan_of, state_of}
+use Rattle.plan_store.specs.Told.{Told, given_by, plan_of, state_of}
 use Rattle.task_core.specs.Claiming.{IsRowOf}
 use Rattle.task_core.proofs.Claimed.{entering, row_of, stands_all}
 use Rattle.task_core.proofs.state.PlanState.take_all.Goals as goal

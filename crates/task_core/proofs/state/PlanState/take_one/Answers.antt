@@ -1,7 +1,7 @@
 use Rattle.std.proofs.Common.{◌≤◌, sym, subst, arith}
 use Rattle.plan_machine.specs.Enabled.{Enabled}
 use Rattle.plan_machine.specs.declared.entry.Entry.TheVariants.{Claim}
-use Rattle.task_core.specs.Told.{Told, given_by, plan_of, state_of}
+use Rattle.plan_store.specs.Told.{Told, given_by, plan_of, state_of}
 use Rattle.task_core.specs.Claiming.{IsShareOf}
 use Rattle.task_core.proofs.Claimed.{seat_in, entering, share_of, stands_one}
 use Rattle.task_core.proofs.state.PlanState.take_one.Goals as goal

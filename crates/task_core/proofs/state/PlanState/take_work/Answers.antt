@@ -1,5 +1,5 @@
 use Rattle.std.proofs.Common.{subst}
-use Rattle.task_core.specs.Told.{Told, given_by}
+use Rattle.plan_store.specs.Told.{Told, given_by}
 use Rattle.task_core.proofs.Works.{Run, run_of, fold_first, stream_first, fold_has, stream_has, tail_has, emitting, folding, sealing, streaming, closing, tailing}
 use Rattle.task_core.proofs.state.PlanState.take_work.Goals as goal
 

@@ -1,4 +1,4 @@
-use Rattle.task_core.specs.Told.{state_of}
+use Rattle.plan_store.specs.Told.{state_of}
 use Rattle.task_core.proofs.Dues.{never_stop, nothing_due}
 use Rattle.task_core.proofs.state.PlanState.upkeep.Goals as goal
 

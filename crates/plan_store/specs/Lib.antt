@@ -1,0 +1,5 @@
+pub mod Told
+pub mod Queues
+pub mod Beginning
+pub mod Openings
+pub mod Shares

@@ -1,7 +1,0 @@
-use Rattle.std.proofs.Common.{◌==◌, ap, ◌∙◌}
-use Rattle.std.specs.List.{list_any}
-use Rattle.task_core.proofs.At.{among_any}
-use Rattle.task_core.proofs.infos.has_input.Goals as goal
-
-pub returns : goal.returns
-returns c = c.contains.ensures.value ∙ (ap (λ xs. list_any (λ y. y == c.args.edge) xs) c.as_slice.ensures ∙ among_any c.args.edge c.args.inputs.now)
