@@ -5,4 +5,3 @@ pub mod Joined
 pub mod NumberText
 pub mod PrintedTable
 pub mod SpelledBytes
-pub mod SpelledScript

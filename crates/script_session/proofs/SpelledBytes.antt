@@ -9,7 +9,7 @@ use Rattle.std.proofs.lemmas.List.{length-append, take_at, get_or_at}
 use Rattle.std.proofs.lemmas.List.Elements.{All-from_recursion}
 use Rattle.std.proofs.lemmas.List.Splits.{slice_split_none, slice_split_at}
 use Rattle.script_session.specs.Names.{is_name, is_name_byte, all_bytes, starts_with_digit}
-use Rattle.script_session.specs.FirstScript.{ends_with_byte, without_last}
+use Rattle.script_session.specs.FirstTable.{ends_with_byte, without_last}
 
 -- ---- bytes that a text lacks
 

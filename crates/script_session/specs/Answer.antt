@@ -8,7 +8,8 @@ use Rattle.script_session.specs.declared.words.Words.{Words}
 use Rattle.row_table.specs.Tables.{TableValue}
 use Rattle.script_session.specs.declared.script.FirstScript.{FirstScript}
 use Rattle.script_session.specs.FirstWords.{words_of}
-use Rattle.script_session.specs.FirstScript.{first_script}
+use Rattle.script_session.specs.declared.script.ScriptFault.{ScriptFault}
+use Rattle.script_session.specs.ReadScript.{read_script, not_built}
 use Rattle.script_session.specs.FirstTable.{first_table}
 use Rattle.script_session.specs.Verbs.{first_meaning}
 use Rattle.script_session.specs.CsvText.{csv_text}
@@ -35,8 +36,8 @@ or_refused (Some x) refusal = Ok x
 abbrev pub bad_words : Refusal
 bad_words = record { status = status.Usage; line = usage_line }
 
-abbrev pub not_built_script : List ℕ → Refusal
-not_built_script path = record { status = status.Script; line = script_line path }
+abbrev pub bad_script : List ℕ → ScriptFault → Refusal
+bad_script path fault = record { status = status.Script; line = script_line path fault }
 
 abbrev pub not_built_table : List ℕ → Refusal
 not_built_table name = record { status = status.Table; line = table_line name }
@@ -52,11 +53,16 @@ abbrev pub file_of : Option (List ℕ) → List ℕ → ℕ → Result (List ℕ
 file_of None path limit = Err (unread path)
 file_of (Some bytes) path limit = if nat_le (length bytes) limit then Ok bytes else Err (too_long path)
 
+-- the script, or its fault at this path
+abbrev pub or_bad_script : {A : Type 0} → List ℕ → Result A ScriptFault → Result A Refusal
+or_bad_script path (Ok script) = Ok script
+or_bad_script path (Err fault) = Err (bad_script path fault)
+
 -- The words, then the script, then the table, then the verbs over the table: the first refusal is the answer.
 unfoldable pub script_of : Words → Held → Result FirstScript Refusal
 script_of words held = do
   bytes ← file_of (held words.script) words.script script_limit
-  or_refused (first_script bytes) (not_built_script words.script)
+  or_bad_script words.script (read_script bytes)
 
 unfoldable pub table_of : Words → Held → Result TableValue Refusal
 table_of words held = do
@@ -64,7 +70,7 @@ table_of words held = do
   or_refused (first_table bytes) (not_built_table words.name)
 
 abbrev pub result_of : Words → FirstScript → TableValue → Result (List ℕ) Refusal
-result_of words script table = or_refused (first_meaning script words.name table) (not_built_script words.script) >>= (λ result. Ok (csv_text result))
+result_of words script table = or_refused (first_meaning script words.name table) (bad_script words.script not_built) >>= (λ result. Ok (csv_text result))
 
 unfoldable pub answer_of : Words → Held → Result (List ℕ) Refusal
 answer_of words held = do

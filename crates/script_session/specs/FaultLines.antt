@@ -1,5 +1,9 @@
 -- The one line that tells a refusal.
-use Rattle.std.specs.Prelude.{ℕ, List, [], ◌∷◌, ◌++◌, codes}
+use Rattle.std.specs.Prelude.{ℕ, List, [], ◌∷◌, ◌++◌, codes, decimal}
+use Rattle.token_scan.specs.declared.token.Place.{Place}
+use Rattle.script_session.specs.declared.script.ScriptFault.{ScriptFault}
+use Rattle.script_session.specs.declared.script.ScriptKind.{ScriptKind}
+use Rattle.script_session.specs.declared.script.ScriptKind.TheVariants as kind
 
 abbrev pub fault_line : List ℕ → List ℕ
 fault_line rest = codes "acero_run: " ++ rest
@@ -11,9 +15,23 @@ ended text = text ++ 10 ∷ []
 abbrev pub usage_line : List ℕ
 usage_line = fault_line (ended (codes "bad command line"))
 
--- the script is of no form that is built
-abbrev pub script_line : List ℕ → List ℕ
-script_line path = fault_line (path ++ ended (codes ":1:1: NotBuilt"))
+abbrev pub kind_text : ScriptKind → List ℕ
+kind_text kind.NotText = codes "NotText"
+kind_text kind.BadChar = codes "BadChar"
+kind_text kind.OpenText = codes "OpenText"
+kind_text kind.NumberRange = codes "NumberRange"
+kind_text kind.Unexpected = codes "Unexpected"
+kind_text kind.Unfinished = codes "Unfinished"
+kind_text kind.TooDeep = codes "TooDeep"
+kind_text kind.NotBuilt = codes "NotBuilt"
+
+-- LINE:COLUMN
+abbrev pub place_text : Place → List ℕ
+place_text place = decimal place.line ++ codes ":" ++ decimal place.column
+
+-- PATH:LINE:COLUMN: KIND
+abbrev pub script_line : List ℕ → ScriptFault → List ℕ
+script_line path fault = fault_line (ended (path ++ codes ":" ++ place_text fault.place ++ codes ": " ++ kind_text fault.kind))
 
 -- the table is of no form that is built
 abbrev pub table_line : List ℕ → List ℕ

@@ -1,111 +1,125 @@
--- A first script: `T |> filter(C OP N) |> select(C1, C2, ..)`, with spaces between its tokens and one line
--- end behind it.
-use Rattle.std.specs.Prelude.{◌≡◌, ℕ, ℤ, pos, neg_ℤ, ◌-◌, ◌<◌, ◌^◌, Bool, true, false, ◌&&◌, ◌||◌, not, ◌==◌, nat_eq, nat_lt, if◌then◌else◌, List, [], ◌∷◌, length, take, drop, slice_index, Option, Some, None, codes}
-use Rattle.std.specs.List.{prefix_len, slice_split, starts_with}
-use Rattle.std.specs.Char.{is_ascii_digit}
+-- A first script, by its tree: `T |> filter(C OP N) |> select(C1, C2, ..)`, with no assignment before it. Places in the
+-- script don't count.
+use Rattle.std.specs.Prelude.{ℕ, ℤ, pos, neg_ℤ, int_lt, if◌then◌else◌, List, [], ◌∷◌, Option, Some, None, codes}
+use Rattle.std.specs.Option.{option_map}
+use Rattle.std.specs.Str.{bytes_eq}
+use Rattle.token_scan.specs.declared.token.Oper.{Oper}
+use Rattle.syntax_tree.specs.declared.tree.Script.{Script}
+use Rattle.syntax_tree.specs.declared.tree.Pipe.{Pipe, out-Pipe}
+use Rattle.syntax_tree.specs.declared.tree.Call.{Call, out-Call}
+use Rattle.syntax_tree.specs.declared.tree.Arg.{Arg, out-Arg}
+use Rattle.syntax_tree.specs.declared.tree.Term.{Term, out-Term}
+use Rattle.syntax_tree.specs.declared.tree.TermKind.{TermKind, out-TermKind}
+use Rattle.syntax_tree.specs.declared.tree.TermKind.TheOpen.{TermKind-F}
 use Rattle.script_session.specs.Steps.{◌>>=◌, each_some}
-use Rattle.script_session.specs.Names.{is_name_byte, is_free_name}
-use Rattle.script_session.specs.Numbers.{number_below}
+use Rattle.script_session.specs.Names.{is_free_name}
 use Rattle.script_session.specs.declared.script.FirstScript.{FirstScript}
 use Rattle.script_session.specs.declared.script.Comparison.{Comparison}
 use Rattle.script_session.specs.declared.script.Comparison.TheVariants.{Equal, NotEqual, Less, LessEqual, Greater, GreaterEqual}
 
--- the bytes behind the spaces at the front
-abbrev pub behind_spaces : List ℕ → List ℕ
-behind_spaces bs = drop (prefix_len (λ b. b == 32) bs) bs
+-- what an expression is, with the expressions in it
+abbrev pub Layer : Type 0
+Layer = TermKind-F TermKind Arg Call Pipe Term
 
--- what stands behind the token at the front and the spaces after it, where the bytes begin with it
-unfoldable pub after_token : List ℕ → List ℕ → Option (List ℕ)
-after_token token bs = if starts_with nat_eq bs token then Some (behind_spaces (drop (length token) bs)) else None
+abbrev pub layer : Term → Layer
+layer term = out-TermKind (out-Term term).kind
 
--- the name at the front, and what stands behind it and the spaces after it
-unfoldable pub name_at : List ℕ → Option (List ℕ × List ℕ)
-name_at bs =
-    if is_free_name (take (prefix_len is_name_byte bs) bs)
-    then Some (take (prefix_len is_name_byte bs) bs, behind_spaces (drop (prefix_len is_name_byte bs) bs))
-    else None
+-- a name that wants no backquotes and is no reserved word
+unfoldable pub free_name : List ℕ → Option (List ℕ)
+free_name name = if is_free_name name then Some name else None
 
--- the digits at the front as a number of at most 2^63 - 1, and what stands behind
-unfoldable pub digits_at : List ℕ → Option (ℤ × List ℕ)
-digits_at bs =
-    number_below (2 ^ 63) (take (prefix_len is_ascii_digit bs) bs) >>= (λ n. Some (pos n, behind_spaces (drop (prefix_len is_ascii_digit bs) bs)))
+abbrev pub column_at : Layer → Option (List ℕ)
+column_at (TermKind-F.Name name) = free_name name
+column_at _ = None
 
-abbrev pub or_else : {A : Type 0} → Option A → Option A → Option A
-or_else None y = y
-or_else (Some x) y = Some x
+-- C
+unfoldable pub column_of : Term → Option (List ℕ)
+column_of term = column_at (layer term)
 
--- a token that stands for a comparison
-abbrev pub as_comparison : Comparison → Option (List ℕ) → Option (Comparison × List ℕ)
-as_comparison op None = None
-as_comparison op (Some rest) = Some (op, rest)
+-- OP
+abbrev pub comparison_of : Oper → Option Comparison
+comparison_of Oper.Eq = Some Equal
+comparison_of Oper.Ne = Some NotEqual
+comparison_of Oper.Lt = Some Less
+comparison_of Oper.Le = Some LessEqual
+comparison_of Oper.Gt = Some Greater
+comparison_of Oper.Ge = Some GreaterEqual
+comparison_of _ = None
 
--- The longest of the six tokens. `<` directly before `-` is another token, and no comparison.
-unfoldable pub comparison_at : List ℕ → Option (Comparison × List ℕ)
-comparison_at bs =
-    or_else (as_comparison LessEqual (after_token (codes "<=") bs))
-    (or_else (as_comparison GreaterEqual (after_token (codes ">=") bs))
-    (or_else (as_comparison Equal (after_token (codes "==") bs))
-    (or_else (as_comparison NotEqual (after_token (codes "!=") bs))
-    (or_else (as_comparison Greater (after_token (codes ">") bs))
-    (if starts_with nat_eq bs (codes "<-") then None else as_comparison Less (after_token (codes "<") bs))))))
+-- a whole number as it is spelled, by digits alone
+abbrev pub unsigned : ℤ → Option ℤ
+unsigned number = if int_lt number (pos 0) then None else Some number
 
--- digits, or `-` and digits
-unfoldable pub limit_at : List ℕ → Option (ℤ × List ℕ)
-limit_at bs =
-    if starts_with nat_eq bs (codes "-")
-    then after_token (codes "-") bs >>= (λ rest. digits_at rest >>= (λ d. Some (neg_ℤ d.0, d.1)))
-    else digits_at bs
+abbrev pub digits_at : Layer → Option ℤ
+digits_at (TermKind-F.Whole number) = unsigned number
+digits_at _ = None
 
--- the bytes before the closing parenthesis that ends the script, and before one line end behind it
-abbrev pub ends_with_byte : ℕ → List ℕ → Bool
-ends_with_byte b bs = nat_lt 0 (length bs) && slice_index bs (length bs - 1) == b
+unfoldable pub digits_of : Term → Option ℤ
+digits_of term = digits_at (layer term)
 
-abbrev pub without_last : List ℕ → List ℕ
-without_last bs = take (length bs - 1) bs
+abbrev pub limit_at : Layer → Option ℤ
+limit_at (TermKind-F.Whole number) = unsigned number
+limit_at (TermKind-F.Unary Oper.Sub operand) = option_map neg_ℤ (digits_of operand)
+limit_at _ = None
 
-abbrev pub without_line_end : List ℕ → List ℕ
-without_line_end bs = if ends_with_byte 10 bs then without_last bs else bs
+-- N: digits, or `-` and digits
+unfoldable pub limit_of : Term → Option ℤ
+limit_of term = limit_at (layer term)
 
-unfoldable pub before_closing : List ℕ → Option (List ℕ)
-before_closing bs = if ends_with_byte 41 (without_line_end bs) then Some (without_last (without_line_end bs)) else None
+abbrev pub condition_at : Layer → Option (List ℕ × Comparison × ℤ)
+condition_at (TermKind-F.Binary oper left right) = do
+  column ← column_of left
+  comparison ← comparison_of oper
+  limit ← limit_of right
+  Some (column, comparison, limit)
+condition_at _ = None
 
--- a name with spaces on either side, and nothing else
-unfoldable pub padded_name : List ℕ → Option (List ℕ)
-padded_name bs = name_at (behind_spaces bs) >>= (λ p. if nat_lt 0 (length p.1) then None else Some p.0)
+-- C OP N
+unfoldable pub condition_of : Term → Option (List ℕ × Comparison × ℤ)
+condition_of term = condition_at (layer term)
 
--- the names between commas
-unfoldable pub chosen_at : List ℕ → Option (List (List ℕ))
-chosen_at bs = before_closing bs >>= (λ inner. each_some padded_name (slice_split (λ b. b == 44) inner))
+abbrev pub unnamed : Option (List ℕ) → Term → Option Term
+unnamed None value = Some value
+unnamed (Some label) value = None
 
--- `T |> filter(`
-unfoldable pub opening_at : List ℕ → Option (List ℕ × List ℕ)
-opening_at bs = do
-  table ← name_at bs
-  piped ← after_token (codes "|>") table.1
-  called ← after_token (codes "filter") piped
-  rest ← after_token (codes "(") called
-  Some (table.0, rest)
+-- the value of an argument that has no name
+unfoldable pub value_of : Arg → Option Term
+value_of arg = unnamed (out-Arg arg).name (out-Arg arg).value
 
--- `) |> select(`
-unfoldable pub middle_at : List ℕ → Option (List ℕ)
-middle_at bs = do
-  closed ← after_token (codes ")") bs
-  piped ← after_token (codes "|>") closed
-  called ← after_token (codes "select") piped
-  after_token (codes "(") called
+-- one argument, a condition
+unfoldable pub only_condition : List Arg → Option (List ℕ × Comparison × ℤ)
+only_condition (arg ∷ []) = value_of arg >>= condition_of
+only_condition _ = None
 
--- `C OP N) |> select(`
-unfoldable pub condition_at : List ℕ → Option (List ℕ × Comparison × ℤ × List ℕ)
-condition_at bs = do
-  column ← name_at bs
-  comparison ← comparison_at column.1
-  limit ← limit_at comparison.1
-  rest ← middle_at limit.1
-  Some (column.0, comparison.0, limit.0, rest)
+-- the column that an argument without a name is
+unfoldable pub column_argument : Arg → Option (List ℕ)
+column_argument arg = value_of arg >>= column_of
 
-unfoldable pub first_script : List ℕ → Option FirstScript
-first_script bs = do
-  opening ← opening_at bs
-  condition ← condition_at opening.1
-  chosen ← chosen_at condition.3
-  Some (record { table = opening.0; column = condition.0; comparison = condition.1; limit = condition.2; chosen = chosen })
+-- one argument or more, each a column
+unfoldable pub chosen_of : List Arg → Option (List (List ℕ))
+chosen_of [] = None
+chosen_of (arg ∷ args) = each_some column_argument (arg ∷ args)
+
+-- the arguments of a call of this verb
+unfoldable pub args_of : List ℕ → Call → Option (List Arg)
+args_of verb call = if bytes_eq (out-Call call).name verb then Some (out-Call call).args else None
+
+-- a filter, then a select
+unfoldable pub first_calls : List ℕ → List Call → Option FirstScript
+first_calls table (first ∷ second ∷ []) = do
+  conditions ← args_of (codes "filter") first
+  condition ← only_condition conditions
+  columns ← args_of (codes "select") second
+  chosen ← chosen_of columns
+  Some (record { table = table; column = condition.0; comparison = condition.1; limit = condition.2; chosen = chosen })
+first_calls table _ = None
+
+unfoldable pub first_pipe : Pipe → Option FirstScript
+first_pipe pipe = free_name (out-Pipe pipe).table >>= (λ table. first_calls table (out-Pipe pipe).calls)
+
+abbrev pub unassigned : List (List ℕ × Pipe) → Pipe → Option FirstScript
+unassigned [] last = first_pipe last
+unassigned (assign ∷ assigns) last = None
+
+unfoldable pub first_tree : Script → Option FirstScript
+first_tree script = unassigned script.assigns script.last

@@ -1,5 +1,5 @@
 -- A first table: a line of names, each followed by `:int`, and lines of whole numbers or NA.
-use Rattle.std.specs.Prelude.{ℕ, ◌-◌, ◌&&◌, ◌==◌, nat_eq, nat_le, if◌then◌else◌, List, [], ◌∷◌, length, take, Option, Some, None, codes, option_map}
+use Rattle.std.specs.Prelude.{ℕ, ◌-◌, Bool, ◌&&◌, ◌==◌, nat_eq, nat_lt, nat_le, if◌then◌else◌, List, [], ◌∷◌, length, take, slice_index, Option, Some, None, codes, option_map}
 use Rattle.std.specs.List.{slice_split, ends_with}
 use Rattle.std.specs.Str.{bytes_eq}
 use Rattle.scalar_value.specs.declared.value.Value.{Value}
@@ -11,7 +11,6 @@ use Rattle.row_table.specs.Tables.{TableValue, names_differ}
 use Rattle.script_session.specs.Steps.{◌>>=◌, each_some}
 use Rattle.script_session.specs.Names.{is_name}
 use Rattle.script_session.specs.Numbers.{int_of}
-use Rattle.script_session.specs.FirstScript.{ends_with_byte, without_last}
 
 -- a name and `:int`
 unfoldable pub field_of : List ℕ → Option Field
@@ -33,6 +32,12 @@ row_of columns line =
 unfoldable pub header_of : List ℕ → Option (List Field)
 header_of line =
     each_some field_of (slice_split (λ b. b == 44) line) >>= (λ fields. if nat_le (length fields) 1024 && names_differ fields then Some fields else None)
+
+abbrev pub ends_with_byte : ℕ → List ℕ → Bool
+ends_with_byte b bs = nat_lt 0 (length bs) && slice_index bs (length bs - 1) == b
+
+abbrev pub without_last : List ℕ → List ℕ
+without_last bs = take (length bs - 1) bs
 
 -- the lines, each of which ends with a line end
 unfoldable pub lines_of : List ℕ → Option (List (List ℕ))

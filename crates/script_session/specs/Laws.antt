@@ -1,85 +1,34 @@
--- The laws above first scripts and first tables: what is spelled is read, and what is printed.
-use Rattle.std.specs.Prelude.{◌≡◌, ℕ, ℤ, pos, neg_ℤ, ◌<◌, ◌≤◌, ◌^◌, FitsSigned, IsTrue, List, [], ◌∷◌, ◌++◌, length, replicate, ◌⊎◌, Some, codes}
+-- The laws above what is read: a script by its tokens and the grammar, and a first table by what is printed.
+use Rattle.std.specs.Prelude.{◌≡◌, ℕ, ◌<◌, ◌≤◌, FitsSigned, IsTrue, List, [], length, Option, Some, None, Result, Ok, Err}
 use Rattle.std.specs.Int.{w64}
-use Rattle.std.specs.List.{All, flat_map}
-use Rattle.std.specs.Str.{all_ascii_digits}
-use Rattle.std.specs.Str.Parse.{digits_value}
+use Rattle.std.specs.List.{All}
+use Rattle.std.specs.Str.{IsUtf8}
 use Rattle.scalar_value.specs.declared.value.Value.{Value}
 use Rattle.scalar_value.specs.declared.value.Value.TheVariants.{Missing, Int, Dec, Chr, Day, Lgl}
 use Rattle.scalar_value.specs.declared.value.ColType.TheVariants as kind
 use Rattle.row_table.specs.declared.field.Field.{Field}
 use Rattle.row_table.specs.declared.table.Mark.TheVariants.{Kept}
 use Rattle.row_table.specs.Tables.{TableValue, names_differ}
+use Rattle.token_scan.specs.declared.token.Token.{Token}
+use Rattle.token_scan.specs.declared.token.Place.{Place}
+use Rattle.token_scan.specs.declared.token.ScanKind.{ScanKind}
+use Rattle.token_scan.specs.declared.token.ScanKind.TheVariants as scan
+use Rattle.token_scan.specs.Tokens.{tokens_of, fault_at as scan_fault_at}
+use Rattle.token_scan.specs.Places.{place_at}
+use Rattle.syntax_tree.specs.declared.tree.Script.{Script}
+use Rattle.verb_syntax.specs.declared.fault.SyntaxKind.{SyntaxKind}
+use Rattle.verb_syntax.specs.declared.fault.SyntaxKind.TheVariants as syntax
+use Rattle.verb_syntax.specs.Lines.{DerivesScript}
+use Rattle.verb_syntax.specs.Parsing.{AllShallow, IsFirstFault}
 use Rattle.script_session.specs.declared.script.FirstScript.{FirstScript}
-use Rattle.script_session.specs.declared.script.Comparison.{Comparison}
-use Rattle.script_session.specs.declared.script.Comparison.TheVariants as comparison
-use Rattle.script_session.specs.Names.{is_name, is_free_name}
-use Rattle.script_session.specs.FirstScript.{first_script}
+use Rattle.script_session.specs.declared.script.ScriptFault.{ScriptFault}
+use Rattle.script_session.specs.declared.script.ScriptKind.{ScriptKind}
+use Rattle.script_session.specs.declared.script.ScriptKind.TheVariants as fault
+use Rattle.script_session.specs.Names.{is_name}
+use Rattle.script_session.specs.FirstScript.{first_tree}
+use Rattle.script_session.specs.ReadScript.{read_script}
 use Rattle.script_session.specs.FirstTable.{first_table}
 use Rattle.script_session.specs.CsvText.{csv_text}
-
--- ---- how a first script is spelled
-
-abbrev pub comparison_token : Comparison → List ℕ
-comparison_token comparison.Equal = codes "=="
-comparison_token comparison.NotEqual = codes "!="
-comparison_token comparison.Less = codes "<"
-comparison_token comparison.LessEqual = codes "<="
-comparison_token comparison.Greater = codes ">"
-comparison_token comparison.GreaterEqual = codes ">="
-
--- digits that write a number of at most 2^63 - 1
-pub record AreDigits (digits : List ℕ) (n : ℕ) : Type 0 where
-  pub each : IsTrue (all_ascii_digits digits)
-  pub some : 0 < length digits
-  pub value : digits_value 10 digits ≡ n
-  pub within : n < 2 ^ 63
-
--- the tokens of a limit: digits, or `-` and digits
-abbrev pub AreLimit : List (List ℕ) → ℤ → Type 0
-AreLimit tokens z =
-    (digits : List ℕ) × (n : ℕ) × AreDigits digits n
-    × (((tokens ≡ digits ∷ []) × (z ≡ pos n)) ⊎ ((tokens ≡ codes "-" ∷ digits ∷ []) × (z ≡ neg_ℤ (pos n))))
-
--- names with a comma between each two
-abbrev pub listed : List (List ℕ) → List (List ℕ)
-listed [] = []
-listed (name ∷ names) = name ∷ flat_map (λ next. codes "," ∷ next ∷ []) names
-
--- `T |> filter(C OP N) |> select(C1, C2, ..)`, with the tokens of N
-abbrev pub tokens_of : FirstScript → List (List ℕ) → List (List ℕ)
-tokens_of s limit =
-    s.table ∷ codes "|>" ∷ codes "filter" ∷ codes "(" ∷ s.column ∷ comparison_token s.comparison
-    ∷ (limit ++ codes ")" ∷ codes "|>" ∷ codes "select" ∷ codes "(" ∷ (listed s.chosen ++ codes ")" ∷ []))
-
--- `<` directly before `-` is another token, so a space stands between these two
-abbrev pub IsApart : List ℕ → List ℕ → ℕ → Type 0
-IsApart token next spaces = token ≡ codes "<" → next ≡ codes "-" → 0 < spaces
-
--- The text spells the tokens in their order, with any number of spaces between two of them, and with one
--- line end or none behind the last.
-abbrev pub Spells : List (List ℕ) → List ℕ → Type 0
-Spells [] text = ⊥
-Spells (token ∷ []) text = (text ≡ token) ⊎ (text ≡ token ++ 10 ∷ [])
-Spells (token ∷ next ∷ tokens) text =
-    (spaces : ℕ) × (rest : List ℕ) × (text ≡ token ++ (replicate spaces 32 ++ rest)) × IsApart token next spaces × Spells (next ∷ tokens) rest
-
--- the text spells the script, whose limit has one or two tokens
-abbrev pub SpellsScript : FirstScript → List ℕ → Type 0
-SpellsScript s text = (limit : List (List ℕ)) × AreLimit limit s.limit × Spells (tokens_of s limit) text
-
--- A first script: what it names has free names, and it chooses one column or more.
-pub record IsFirstScript (s : FirstScript) : Type 0 where
-  pub table : IsTrue (is_free_name s.table)
-  pub column : IsTrue (is_free_name s.column)
-  pub some : 0 < length s.chosen
-  pub chosen : All (λ name. IsTrue (is_free_name name)) s.chosen
-
--- a text that spells a first script is read as that script
-abbrev pub SpelledIsRead : Type 0
-SpelledIsRead = (s : FirstScript) (text : List ℕ) → IsFirstScript s → SpellsScript s text → first_script text ≡ Some s
-
--- ---- first tables
 
 -- a column of whole numbers, whose name is a name
 abbrev pub IsFirstColumn : Field → Type 0
@@ -111,3 +60,41 @@ pub record IsFirstTable (t : TableValue) : Type 0 where
 -- the text of a first table is read as that table
 abbrev pub PrintedIsRead : Type 0
 PrintedIsRead = (t : TableValue) → IsFirstTable t → first_table (csv_text t) ≡ Some t
+
+-- ---- scripts
+
+-- the tokens of the script derive this tree
+abbrev pub HasTree : List ℕ → Script → Type 0
+HasTree bytes tree = (tokens : List Token) × (tokens_of bytes ≡ Ok tokens) × DerivesScript tokens tree × AllShallow tokens
+
+-- this fault is the first among the script's bytes as tokens
+abbrev pub HasBadToken : List ℕ → ScanKind → Place → Type 0
+HasBadToken bytes what place = (at : ℕ) × (tokens_of bytes ≡ Err (scan_fault_at what at)) × (place ≡ place_at bytes at)
+
+-- this fault is the first among the script's tokens by the grammar
+abbrev pub HasBadSyntax : List ℕ → SyntaxKind → Place → Type 0
+HasBadSyntax bytes what place =
+    (tokens : List Token) × (at : ℕ) × (tokens_of bytes ≡ Ok tokens) × IsFirstFault what tokens at (length bytes) × (place ≡ place_at bytes at)
+
+abbrev pub IsAtStart : Place → Type 0
+IsAtStart place = (place.line ≡ 1) × (place.column ≡ 1)
+
+-- what a fault says of a script
+abbrev pub IsFaultOf : List ℕ → ScriptKind → Place → Type 0
+IsFaultOf bytes fault.NotText place = (IsUtf8 bytes → ⊥) × IsAtStart place
+IsFaultOf bytes fault.BadChar place = IsUtf8 bytes × HasBadToken bytes scan.BadChar place
+IsFaultOf bytes fault.OpenText place = IsUtf8 bytes × HasBadToken bytes scan.OpenText place
+IsFaultOf bytes fault.NumberRange place = IsUtf8 bytes × HasBadToken bytes scan.NumberRange place
+IsFaultOf bytes fault.Unexpected place = IsUtf8 bytes × HasBadSyntax bytes syntax.Unexpected place
+IsFaultOf bytes fault.Unfinished place = IsUtf8 bytes × HasBadSyntax bytes syntax.Unfinished place
+IsFaultOf bytes fault.TooDeep place = IsUtf8 bytes × HasBadSyntax bytes syntax.TooDeep place
+IsFaultOf bytes fault.NotBuilt place =
+    IsUtf8 bytes × ((tree : Script) × HasTree bytes tree × (first_tree tree ≡ None)) × IsAtStart place
+
+-- A script is read as the first script that its one tree is, or it has the fault that is told.
+abbrev pub IsReadAs : List ℕ → Result FirstScript ScriptFault → Type 0
+IsReadAs bytes (Ok script) = IsUtf8 bytes × ((tree : Script) × HasTree bytes tree × (first_tree tree ≡ Some script))
+IsReadAs bytes (Err found) = IsFaultOf bytes found.kind found.place
+
+abbrev pub ScriptsAreRead : Type 0
+ScriptsAreRead = (bytes : List ℕ) → IsReadAs bytes (read_script bytes)

@@ -3,6 +3,7 @@ pub mod Names
 pub mod Numbers
 pub mod FirstWords
 pub mod FirstScript
+pub mod ReadScript
 pub mod FirstTable
 pub mod Verbs
 pub mod CsvText

@@ -11,6 +11,7 @@ use Rattle.script_session.specs.declared.status.Refusal.{Refusal}
 use Rattle.script_session.specs.declared.status.Stop.{Stop}
 use Rattle.script_session.specs.declared.status.Stop.TheVariants.{Refused, Unread}
 use Rattle.script_session.specs.declared.words.Words.{Words}
+use Rattle.script_session.specs.declared.script.ScriptFault.{ScriptFault}
 use Rattle.script_session.specs.FirstWords.{words_of}
 use Rattle.script_session.specs.Answer.{answer, paths_of, named_paths, paths_reached}
 use Rattle.script_session.specs.FaultLines.{usage_line, script_line, table_line, unread_line, long_line, write_line, memory_line}
@@ -77,6 +78,10 @@ OnSilent status.Read P = P
 OnSilent status.Write P = Unit {0}
 OnSilent status.Memory P = Unit {0}
 
+-- the line tells a fault of the script at this path: its kind, and its place by line and column
+abbrev pub IsScriptLine : List ℕ → List ℕ → Type 0
+IsScriptLine path line = (fault : ScriptFault) × (line ≡ script_line path fault)
+
 -- The line of a refusal, by its status. For Read a read of a path of the words failed, and the answer comes
 -- to that path; or no read failed, and the file of such a path is too long.
 module _ (words : List (List ℕ)) (told : Option Held) (of_before of_now : List ℕ → Option ℕ) (before now : ℕ) where
@@ -88,7 +93,7 @@ module _ (words : List (List ℕ)) (told : Option Held) (of_before of_now : List
   abbrev pub IsFaultLine : Status → List ℕ → Type 0
   IsFaultLine status.Done line = ⊥
   IsFaultLine status.Usage line = line ≡ usage_line
-  IsFaultLine status.Script line = (named : Words) × (words_of words ≡ Some named) × (line ≡ script_line named.script)
+  IsFaultLine status.Script line = (named : Words) × (words_of words ≡ Some named) × IsScriptLine named.script line
   IsFaultLine status.Table line = (named : Words) × (words_of words ≡ Some named) × (line ≡ table_line named.name)
   IsFaultLine status.Read line = (path : List ℕ) × IsNamed words path × IsReadLine path line
   IsFaultLine status.Write line = line ≡ write_line
@@ -130,7 +135,7 @@ IsTooLong path refusal = (refusal.status ≡ status.Read) × (refusal.line ≡ l
 abbrev pub IsRefusedOf : Words → Status → List ℕ → Type 0
 IsRefusedOf named status.Done line = ⊥
 IsRefusedOf named status.Usage line = ⊥
-IsRefusedOf named status.Script line = line ≡ script_line named.script
+IsRefusedOf named status.Script line = IsScriptLine named.script line
 IsRefusedOf named status.Table line = line ≡ table_line named.name
 IsRefusedOf named status.Read line = (path : List ℕ) × IsAmong path (paths_of (Some named)) × (line ≡ long_line path)
 IsRefusedOf named status.Write line = ⊥

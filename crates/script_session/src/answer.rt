@@ -1,4 +1,4 @@
-ghost use Rattle.std.specs.Prelude.{◌≡◌, List, ℕ, Option, Some, None, map, IfOk};
+ghost use Rattle.std.specs.Prelude.{◌≡◌, ◌≤◌, List, ℕ, Option, Some, None, map, length, IfOk};
 ghost use Rattle.std.specs.String.{string_bytes};
 ghost use Rattle.outside_io.specs.Counts.{FailedAt, NoneRose};
 ghost use Rattle.outside_io.specs.Outside.{Held};
@@ -7,9 +7,10 @@ ghost use Rattle.script_session.specs.FirstWords.{words_of};
 ghost use Rattle.script_session.specs.Answer.{answer, answer_of, result_of, file_of, script_of, table_of, paths_of, paths_reached, paths_reached_of};
 ghost use Rattle.script_session.specs.Outcome.{Comes, StopsBy, ByUnread, IsTooLong, IsRefused, IsRefusedOf, IsUsage, IsNamed, IsAmong};
 
-use crate::fault::{bad_words, not_built_script, not_built_table, too_long};
+use crate::fault::{bad_script, bad_words, not_built_table, too_long};
 use crate::print::csv_text;
-use crate::script::{FirstScript, NotBuilt, first_script};
+use crate::reading::read_script;
+use crate::script::{FirstScript, NotBuilt, ScriptFault, ScriptKind};
 use crate::status::Stop;
 use crate::table::first_table;
 use crate::verbs::first_meaning;
@@ -28,6 +29,7 @@ pub const TABLE_LIMIT: u64 = 1 << 28;
 // The bytes of a file that the words name.
 fn read_file<F: Files>(alloc: Global, files: &mut F, path: &Text, limit: u64) -> Res<Seq<u8>, Stop>
     ensures known { (held : Held) → F.held files.old ≡ Some held → Comes result (file_of (held path.now) path.now limit) }
+    ensures within { IfOk result (λ bytes. length bytes ≤ limit) }
     ensures stops { StopsBy result (IsTooLong path.now) (λ p. p ≡ path.now) }
     ensures counts { ByUnread result (λ p. FailedAt (F.faults_of files.old p) (F.faults_of files.new p) (F.faults files.old) (F.faults files.new))
         (NoneRose (F.faults files.old) (F.faults files.new) (F.faults_of files.old) (F.faults_of files.new)) }
@@ -54,11 +56,12 @@ fn script_of<F: Files>(alloc: Global, files: &mut F, words: &Words) -> Res<First
     ensures held { F.held files.new ≡ F.held files.old }
 {
     let bytes = read_file(alloc, files, &words.script, SCRIPT_LIMIT)?;
-    match first_script(alloc, bytes.as_slice()) {
+    match read_script(alloc, bytes.as_slice()) {
         Ok(script) => Ok(script),
-        Err(Or::Fault(NotBuilt)) => Err(Or::Fault(Stop::Refused(not_built_script(
+        Err(Or::Fault(fault)) => Err(Or::Fault(Stop::Refused(bad_script(
             alloc,
             words.script.as_str(),
+            fault,
         )?))),
         Err(Or::Memory) => Err(Or::Memory),
     }
@@ -91,9 +94,10 @@ fn result_text(alloc: Global, words: &Words, script: &FirstScript, table: Table)
 {
     match first_meaning(alloc, script, words.name.as_str(), table) {
         Ok((fields, rows)) => Ok(csv_text(alloc, fields.as_slice(), rows.as_slice())?),
-        Err(Or::Fault(NotBuilt)) => Err(Or::Fault(Stop::Refused(not_built_script(
+        Err(Or::Fault(NotBuilt)) => Err(Or::Fault(Stop::Refused(bad_script(
             alloc,
             words.script.as_str(),
+            ScriptFault::at_start(ScriptKind::NotBuilt),
         )?))),
         Err(Or::Memory) => Err(Or::Memory),
     }

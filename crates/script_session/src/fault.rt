@@ -1,7 +1,8 @@
 ghost use Rattle.std.specs.Prelude.{◌≡◌, IfOk};
 ghost use Rattle.script_session.specs.FaultLines.{script_line, table_line, unread_line, long_line};
-ghost use Rattle.script_session.specs.Answer.{bad_words, not_built_script, not_built_table, too_long};
+ghost use Rattle.script_session.specs.Answer.{bad_words, bad_script, not_built_table, too_long};
 
+use crate::script::ScriptFault;
 use crate::status::{Refusal, Status};
 use scalar_value::{Mem, Text};
 use std::alloc::Global;
@@ -24,12 +25,21 @@ pub fn bad_words(alloc: Global) -> Mem<Refusal>
     })
 }
 
-pub fn not_built_script(alloc: Global, path: &str) -> Mem<Refusal>
-    ensures { IfOk result (λ r. r ≡ not_built_script path.now) }
+pub fn script_line(alloc: Global, path: &str, fault: ScriptFault) -> Mem<Text>
+    ensures { IfOk result (λ t. t ≡ script_line path.now fault) }
+{
+    let line = fault.place.line;
+    let column = fault.place.column;
+    let kind = fault.kind.text();
+    Ok(Text::of_string(format!(in alloc; "acero_run: {path}:{line}:{column}: {kind}\n")?))
+}
+
+pub fn bad_script(alloc: Global, path: &str, fault: ScriptFault) -> Mem<Refusal>
+    ensures { IfOk result (λ r. r ≡ bad_script path.now fault) }
 {
     Ok(Refusal {
         status: Status::Script,
-        line: Text::of_string(format!(in alloc; "acero_run: {path}:1:1: NotBuilt\n")?),
+        line: script_line(alloc, path, fault)?,
     })
 }
 

@@ -8,16 +8,18 @@ mod laws;
 mod names;
 mod numbers;
 mod print;
+mod reading;
 mod run;
 mod script;
 mod status;
 mod table;
+mod tree;
 mod verbs;
 mod words;
 
-pub use laws::{printed_is_read, spelled_is_read};
+pub use laws::{printed_is_read, scripts_are_read};
 pub use run::run_single;
-pub use script::{Comparison, FirstScript};
+pub use script::{Comparison, FirstScript, ScriptFault, ScriptKind};
 pub use status::{PlanRun, Refusal, RunRecord, Status};
 pub use words::{BadWords, Words};
 

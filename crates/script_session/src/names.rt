@@ -1,5 +1,9 @@
-ghost use Rattle.std.specs.Prelude.{◌≡◌};
+ghost use Rattle.std.specs.Prelude.{◌≡◌, IfOk};
 ghost use Rattle.script_session.specs.Names.{is_name_byte, all_bytes, starts_with_digit, is_name, is_reserved, is_free_name};
+
+use scalar_value::{Mem, NoMemory, Text};
+use std::alloc::Global;
+use std::str;
 
 /// Whether a name may go on with this byte.
 pub fn is_name_byte(byte: u8) -> bool
@@ -58,4 +62,14 @@ pub fn is_free_name(bytes: &[u8]) -> bool
     ensures { result ≡ is_free_name bytes.now }
 {
     is_name(bytes) && !is_reserved(bytes)
+}
+
+// The bytes of a name as a text, since names are ASCII.
+pub fn text_of(alloc: Global, name: &[u8]) -> Mem<Text>
+    ensures { IfOk result (λ t. t ≡ name.now) }
+{
+    match str::from_utf8(name) {
+        Ok(text) => Text::of(alloc, text),
+        Err(_) => Err(NoMemory),
+    }
 }

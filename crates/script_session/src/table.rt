@@ -7,9 +7,9 @@ ghost use Rattle.script_session.specs.Steps.{each_some};
 ghost use Rattle.script_session.specs.FirstTable.{field_of, value_of, row_of, header_of, lines_of, table_of_lines, first_table, kept_table};
 
 use crate::each::{ReadPiece, pieces_of, read_each};
-use crate::names::is_name;
+use crate::names::{is_name, text_of};
 use crate::numbers::int_of;
-use crate::script::{NotBuilt, text_of};
+use crate::script::NotBuilt;
 use row_table::{Field, Mark, Row, Schema, Table};
 use scalar_value::{ColType, Mem, Or, Res, Seq, Text, Value};
 use std::alloc::Global;

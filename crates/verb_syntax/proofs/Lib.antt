@@ -6,3 +6,4 @@ pub mod Scripts
 pub mod Completing
 pub mod Parses
 pub mod Counted
+pub mod Parsed

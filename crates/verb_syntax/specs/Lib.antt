@@ -6,3 +6,4 @@ pub mod Parsing
 pub mod Reader
 pub mod Counting
 pub mod Opening
+pub mod Parsed

@@ -5,6 +5,7 @@ ghost use Rattle.verb_syntax.specs.Lines.{is_line, is_passed, deeper, goes_on};
 ghost use Rattle.verb_syntax.specs.Operators.{ends_operand, is_counted, count_at};
 ghost use Rattle.verb_syntax.specs.Reader.{limited, reads};
 ghost use Rattle.verb_syntax.specs.Parsing.{IsParsed, DeriveOne};
+ghost use Rattle.verb_syntax.specs.Parsed.{parsed, ParsedByGrammar};
 ghost use Rattle.verb_syntax.specs.Counting.{CountsOperators};
 ghost use Rattle.verb_syntax.specs.Opening.{OpenOne, OpensAll};
 
@@ -191,7 +192,7 @@ fn read(alloc: Global, token: &Token, reader: Reader) -> Res<Reader, SyntaxFault
 }
 
 fn read_all(alloc: Global, tokens: &[Token], end: u32) -> Res<Script, SyntaxFault>
-    ensures { IsParsed result tokens.now end }
+    ensures { Gives result (parsed tokens.now end) }
 {
     let mut reader = Reader {
         state: begun(alloc)?,
@@ -225,6 +226,8 @@ fn read_all(alloc: Global, tokens: &[Token], end: u32) -> Res<Script, SyntaxFaul
 pub fn parse(alloc: Global, tokens: &[Token], end: u32) -> Res<Script, SyntaxFault>
     requires in_order { AreInOrder 0 tokens.now end }
     ensures parsed { IsParsed result tokens.now end }
+    ensures given { Gives result (parsed tokens.now end) }
+    ensures by_grammar { ParsedByGrammar }
     ensures one_tree { DeriveOne }
     ensures one_opening { OpenOne }
     ensures all_open { OpensAll }
