@@ -4,4 +4,5 @@ pub mod Filled
 pub mod Joined
 pub mod NumberText
 pub mod PrintedTable
+pub mod ReadScripts
 pub mod SpelledBytes

@@ -57,9 +57,14 @@ digits_at _ = None
 unfoldable pub digits_of : Term → Option ℤ
 digits_of term = digits_at (layer term)
 
+-- digits behind an operator, which is `-`
+abbrev pub negated : Oper → Option ℤ → Option ℤ
+negated Oper.Sub digits = option_map neg_ℤ digits
+negated _ digits = None
+
 abbrev pub limit_at : Layer → Option ℤ
 limit_at (TermKind-F.Whole number) = unsigned number
-limit_at (TermKind-F.Unary Oper.Sub operand) = option_map neg_ℤ (digits_of operand)
+limit_at (TermKind-F.Unary oper operand) = negated oper (digits_of operand)
 limit_at _ = None
 
 -- N: digits, or `-` and digits

@@ -57,7 +57,8 @@ or_not_built None = Err not_built
 or_not_built (Some script) = Ok script
 
 infixl 10 ◌>>=◌
-abbrev ◌>>=◌ : {A B : Type 0} → Result A ScriptFault → (A → Result B ScriptFault) → Result B ScriptFault
+-- the second step over what the first gives, unless that is a fault
+abbrev pub ◌>>=◌ : {A B : Type 0} → Result A ScriptFault → (A → Result B ScriptFault) → Result B ScriptFault
 (Ok x) >>= f = f x
 (Err fault) >>= f = Err fault
 

@@ -43,9 +43,9 @@ fn script_tokens(alloc: Global, script: &str) -> Res<Seq<Token>, ScriptFault>
 {
     match scan(alloc, script) {
         Ok(tokens) => Ok(tokens),
-        Err(Or::Fault(fault)) => Err(Or::Fault(ScriptFault {
-            kind: scan_kind(fault.kind),
-            place: place_of(script, fault.at),
+        Err(Or::Fault(token_fault)) => Err(Or::Fault(ScriptFault {
+            kind: scan_kind(token_fault.kind),
+            place: place_of(script, token_fault.at),
         })),
         Err(Or::Memory) => Err(Or::Memory),
     }
@@ -61,9 +61,9 @@ fn script_tree(alloc: Global, script: &str, tokens: &[Token]) -> Res<Script, Scr
 {
     match parse(alloc, tokens, script.len() as u32) {
         Ok(tree) => Ok(tree),
-        Err(Or::Fault(fault)) => Err(Or::Fault(ScriptFault {
-            kind: syntax_kind(fault.kind),
-            place: place_of(script, fault.at),
+        Err(Or::Fault(grammar_fault)) => Err(Or::Fault(ScriptFault {
+            kind: syntax_kind(grammar_fault.kind),
+            place: place_of(script, grammar_fault.at),
         })),
         Err(Or::Memory) => Err(Or::Memory),
     }

@@ -6,9 +6,11 @@ ghost use Rattle.script_session.specs.FirstWords.{words_of};
 ghost use Rattle.script_session.specs.Answer.{answer};
 ghost use Rattle.script_session.specs.Outcome.{NamedReadFailed, NamedReadGrew, WritesLine, TellsLine, IsFaultLine, IsAnswer, IsTaken, IsGiven, IsReadOrMemory, IsWriteOrMemory, IsUsageOrMemory, OnSilent, IsWritten, IsWriteTold};
 ghost use Rattle.script_session.specs.FaultLines.{memory_line};
+ghost use Rattle.script_session.specs.Laws.{ScriptsAreRead};
 
 use crate::answer::answer;
 use crate::fault::{MEMORY_LINE, WRITE_LINE, unread_line};
+use crate::laws::scripts_are_read;
 use crate::status::{RunRecord, Status, Stop};
 use outside_io::{Failed, Files, Sink, write_all};
 use scalar_value::{NoMemory, Or, Seq};
@@ -69,7 +71,11 @@ pub fn run_single<R: Threads + Sync, F: Files, O: Sink, E: Sink>(
         (IsFaultLine (map (λ w. string_bytes w) words.now) (F.held files.old) (F.faults_of files.old) (F.faults_of files.new) (F.faults files.old) (F.faults files.new) result) }
     ensures record { journal.new.runs ≡ [] }
     ensures held { F.held files.new ≡ F.held files.old }
+
+    // What `answer` reads a script as is what its tokens and the grammar say, and so is a fault with its place.
+    ensures scripts { ScriptsAreRead }
 {
+    scripts_are_read();
     journal.runs = Seq::new(alloc);
     match answer(alloc, files, words) {
         Ok(text) => write_result(out, err, text.as_str()),

@@ -2,7 +2,7 @@
 use crate::{RunRecord, Status, run_single};
 use outside_io::{MemFiles, MemSink};
 use scalar_value::{Mem, Seq, Text};
-use std::alloc::Global;
+use std::alloc::{AllocError, Global};
 use std::process::Abort;
 use std::test::Fail;
 use std::thread::Threads;
@@ -31,12 +31,12 @@ fn expect<R: Abort + Threads + Sync>(
     rt: &R,
     alloc: Global,
     words: &[&str],
-    texts: (&str, &[u8]),
+    texts: (&[u8], &[u8]),
     failing: (&[u64], &[u64]),
     wanted: (Status, &[u8], &str),
 ) -> Result<(), Fail> {
     let words = words_of(alloc, words)?;
-    let mut files = files_of(alloc, texts.0.as_bytes(), texts.1, failing.0)?;
+    let mut files = files_of(alloc, texts.0, texts.1, failing.0)?;
     let mut out = MemSink::new(alloc, 4096, 8, Seq::of_slice(alloc, failing.1)?)?;
     let mut err = MemSink::new(alloc, 4096, 5, Seq::new(alloc))?;
     let mut journal = RunRecord {
@@ -64,7 +64,7 @@ fn scripts_and_tables_are_read(rt: HostRuntime) -> Result<(), Fail> {
     let table_line = "acero_run: t: NotBuilt row 0 column 0\n";
     let kept: &[u8] = b"id:int,x:int\n1,10\n3,30\n";
     let bare: &[u8] = b"id:int,x:int\n";
-    let rows: [(&str, &[u8], Status, &[u8], &str); 20] = [
+    let rows: [(&str, &[u8], Status, &[u8], &str); 18] = [
         (SCRIPT, TABLE, Status::Done, kept, ""),
         (
             "t|>filter( x>5 )  |>select(id,x )\n",
@@ -122,21 +122,7 @@ fn scripts_and_tables_are_read(rt: HostRuntime) -> Result<(), Fail> {
             bare,
             "",
         ),
-        (
-            "t |> filter(x<-5) |> select(id)",
-            TABLE,
-            Status::Script,
-            b"",
-            script_line,
-        ),
         ("t |> head()", TABLE, Status::Script, b"", script_line),
-        (
-            "t |> filter(x > 9223372036854775808) |> select(id)",
-            TABLE,
-            Status::Script,
-            b"",
-            script_line,
-        ),
         (
             "t |> filter(y > 5) |> select(id)",
             TABLE,
@@ -175,9 +161,115 @@ fn scripts_and_tables_are_read(rt: HostRuntime) -> Result<(), Fail> {
             &rt,
             rt.alloc(),
             &["s.R", "t=t.csv"],
-            (script, table),
+            (script.as_bytes(), table),
             (&[], &[]),
             (status, out, line),
+        )?;
+    }
+    Ok(())
+}
+
+// A script in which so many parentheses are opened behind `filter(`, and so many closed behind the condition.
+fn nested(
+    alloc: Global,
+    opened: usize,
+    condition: &str,
+    closed: usize,
+) -> Result<String, AllocError> {
+    let mut script = String::from_str(alloc, "t |> filter(")?;
+    for _ in 0..opened {
+        script.push_str("(")?;
+    }
+    script.push_str(condition)?;
+    for _ in 0..closed {
+        script.push_str(")")?;
+    }
+    Ok(script)
+}
+
+#[test]
+fn scripts_have_many_spellings(rt: HostRuntime) -> Result<(), Fail> {
+    let kept: &[u8] = b"id:int,x:int\n1,10\n3,30\n";
+    let all: &[u8] = b"id:int\n1\n3\n4\n";
+    let rows: [(&str, &[u8]); 7] = [
+        (
+            "t %>%\n  filter( x > 5 ) |>\r\n\tselect(id, # columns\n x)\r\n",
+            kept,
+        ),
+        (
+            "library(dplyr)\nlibrary(tidyr); t |> filter((x) > (5L)) |> select(`id`, x)\n\n",
+            kept,
+        ),
+        (
+            "\n# a comment\nt |>\n\n filter((x > 5)) |> `select`(id,\n x)",
+            kept,
+        ),
+        (";t |> filter(x > 5) |> select(id, x);", kept),
+        ("\u{feff}t |> filter(x > -(5)) |> select(id)", all),
+        ("`t`|>filter(`x`> -5L)|>select(id)", all),
+        ("t |> filter(x > - 5) |> select((id))", all),
+    ];
+    for (script, out) in rows {
+        expect(
+            &rt,
+            rt.alloc(),
+            &["s.R", "t=t.csv"],
+            (script.as_bytes(), TABLE),
+            (&[], &[]),
+            (Status::Done, out, ""),
+        )?;
+    }
+    Ok(())
+}
+
+#[test]
+fn faults_of_scripts_have_places(rt: HostRuntime) -> Result<(), Fail> {
+    let deep = nested(rt.alloc(), 128, "", 0)?;
+    let shallow = nested(rt.alloc(), 127, "x > 5", 128)?;
+    let rows: [(&[u8], &str); 24] = [
+        (b"t |> filter(x<-5)", "1:14: Unexpected"),
+        (b"", "1:1: Unfinished"),
+        (b"t |> filter(x > 1e3)", "1:18: BadChar"),
+        (b"t |> filter(x > 'a\\q')", "1:19: BadChar"),
+        (
+            "\u{feff}t |> filter(x > '\u{e9}\\q')".as_bytes(),
+            "1:19: BadChar",
+        ),
+        (deep.as_bytes(), "1:140: TooDeep"),
+        (shallow.as_bytes(), "1:1: NotBuilt"),
+        (b"t |> filter(x > 9223372036854775808)", "1:17: NumberRange"),
+        (b"t |> filter(x > 'a", "1:17: OpenText"),
+        (b"t |>\r\n  filter(x >)", "2:13: Unexpected"),
+        (b"t |> filter(x > 5", "1:18: Unfinished"),
+        (b"library(ggplot2)\nt", "1:9: Unexpected"),
+        (b"t |> filter() 'a", "1:15: OpenText"),
+        (b"t |> filter(x > 5) \xff", "1:1: NotText"),
+        (b"t", "1:1: NotBuilt"),
+        (
+            b"a <- t\na |> filter(x > 5) |> select(id)",
+            "1:1: NotBuilt",
+        ),
+        (
+            b"t |> filter(x > 5, x < 9) |> select(id)",
+            "1:1: NotBuilt",
+        ),
+        (b"t |> filter(x = 5) |> select(id)", "1:1: NotBuilt"),
+        (b"t |> filter(5 > x) |> select(id)", "1:1: NotBuilt"),
+        (b"t |> filter(x > 5.0) |> select(id)", "1:1: NotBuilt"),
+        (b"t |> filter(x > --5) |> select(id)", "1:1: NotBuilt"),
+        (b"t |> filter(x > 5) |> select()", "1:1: NotBuilt"),
+        (b"t |> filter(x > 5) |> select(a = id)", "1:1: NotBuilt"),
+        (b"t |> filter(`a b` > 5) |> select(id)", "1:1: NotBuilt"),
+    ];
+    for (script, fault) in rows {
+        let line = format!(in rt.alloc(); "acero_run: s.R:{fault}\n")?;
+        expect(
+            &rt,
+            rt.alloc(),
+            &["s.R", "t=t.csv"],
+            (script, TABLE),
+            (&[], &[]),
+            (Status::Script, b"", line.as_str()),
         )?;
     }
     Ok(())
@@ -209,7 +301,7 @@ fn words_are_read(rt: HostRuntime) -> Result<(), Fail> {
             &rt,
             rt.alloc(),
             words,
-            (SCRIPT, TABLE),
+            (SCRIPT.as_bytes(), TABLE),
             (&[], &[]),
             (status, b"", line),
         )?;
@@ -225,7 +317,7 @@ fn faults_of_files_and_sinks_are_told(rt: HostRuntime) -> Result<(), Fail> {
         &rt,
         rt.alloc(),
         &words,
-        (SCRIPT, TABLE),
+        (SCRIPT.as_bytes(), TABLE),
         (&[1], &[]),
         (Status::Read, b"", unread),
     )?;
@@ -234,7 +326,7 @@ fn faults_of_files_and_sinks_are_told(rt: HostRuntime) -> Result<(), Fail> {
         &rt,
         rt.alloc(),
         &words,
-        (SCRIPT, TABLE),
+        (SCRIPT.as_bytes(), TABLE),
         (&[3], &[]),
         (Status::Read, b"", unread),
     )?;
@@ -243,7 +335,7 @@ fn faults_of_files_and_sinks_are_told(rt: HostRuntime) -> Result<(), Fail> {
         &rt,
         rt.alloc(),
         &words,
-        (SCRIPT, TABLE),
+        (SCRIPT.as_bytes(), TABLE),
         (&[], &[2]),
         (Status::Write, b"id:int,x", unwritten),
     )?;

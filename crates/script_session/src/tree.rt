@@ -2,7 +2,7 @@ ghost use Rattle.std.specs.Prelude.{◌≡◌, ◌≤ℤ◌, pos, IfSome, codes}
 ghost use Rattle.std.specs.Option.{option_map, option_copied};
 ghost use Rattle.scalar_value.specs.Gives.{GivesSome};
 ghost use Rattle.script_session.specs.Steps.{each_some};
-ghost use Rattle.script_session.specs.FirstScript.{free_name, column_of, comparison_of, unsigned, digits_of, limit_of, condition_of, value_of, only_condition, column_argument, chosen_of, args_of, first_calls, first_pipe, first_tree};
+ghost use Rattle.script_session.specs.FirstScript.{free_name, column_of, comparison_of, unsigned, digits_of, negated, limit_of, condition_of, value_of, only_condition, column_argument, chosen_of, args_of, first_calls, first_pipe, first_tree};
 
 use crate::names::is_free_name;
 use crate::script::{Comparison, FirstScript, NotBuilt};
@@ -65,16 +65,27 @@ fn digits_of(term: &Term) -> Option<i64>
     }
 }
 
+// Digits behind an operator, which is `-`.
+fn negated(oper: Oper, digits: Option<i64>) -> Option<i64>
+    requires { IfSome digits (λ n. pos 0 ≤ℤ n) }
+    ensures { result ≡ negated oper digits }
+{
+    match oper {
+        Oper::Sub => match digits {
+            Some(number) => Some(-number),
+            None => None,
+        },
+        _ => None,
+    }
+}
+
 #[tactic(auto, unfolding(crate::specs::FirstScript::limit_of))]
 fn limit_of(term: &Term) -> Option<i64>
     ensures { result ≡ limit_of term.now }
 {
     match &term.kind {
         TermKind::Whole(number) => unsigned(*number),
-        TermKind::Unary(Oper::Sub, operand) => match digits_of(operand.get()) {
-            Some(number) => Some(-number),
-            None => None,
-        },
+        TermKind::Unary(oper, operand) => negated(*oper, digits_of(operand.get())),
         _ => None,
     }
 }
@@ -141,10 +152,10 @@ fn columns_of(alloc: Global, args: &[Arg]) -> Res<Seq<Text>, NotBuilt>
 fn chosen_of(alloc: Global, args: &[Arg]) -> Res<Seq<Text>, NotBuilt>
     ensures { GivesSome result (chosen_of args.now) }
 {
-    if args.is_empty() {
-        return Err(Or::Fault(NotBuilt));
+    match args {
+        [] => Err(Or::Fault(NotBuilt)),
+        [_, ..] => columns_of(alloc, args),
     }
-    columns_of(alloc, args)
 }
 
 // The arguments of a call of this verb.
@@ -200,9 +211,8 @@ fn first_pipe(alloc: Global, pipe: &Pipe) -> Res<FirstScript, NotBuilt>
 pub fn first_tree(alloc: Global, script: &Script) -> Res<FirstScript, NotBuilt>
     ensures { GivesSome result (first_tree script.now) }
 {
-    if script.assigns.is_empty() {
-        first_pipe(alloc, &script.last)
-    } else {
-        Err(Or::Fault(NotBuilt))
+    match script.assigns.as_slice() {
+        [] => first_pipe(alloc, &script.last),
+        [_, ..] => Err(Or::Fault(NotBuilt)),
     }
 }
