@@ -1,5 +1,5 @@
 -- Where the first fault of a script's grammar stands, and what scripts are read as by the grammar.
-use Rattle.std.proofs.Common.{◌≡◌, ℕ, ◌<◌, Bool, true, false, List, ◌∷◌, ◌++◌, length, length-append, Option, Some, None, Result, Ok, Err, refl, sym, subst, arith}
+use Rattle.std.proofs.Common.{◌≡◌, ℕ, ◌<◌, Bool, true, false, List, ◌∷◌, ◌++◌, length, length-append, Option, Some, None, Result, Ok, Err, refl, sym, ap, subst, arith}
 use Rattle.std.specs.Prelude.{if◌then◌else◌}
 use Rattle.std.specs.List.{All}
 use Rattle.std.specs.Str.{IsUtf8, is_utf8, IsCharBoundary}
@@ -72,6 +72,22 @@ on_text : (bytes : List ℕ) (b : Bool) → is_utf8 bytes ≡ b → IsReadAs byt
 unfolding read_text script_tokens
 on_text bytes true e = on_tokens bytes (IsUtf8-from_is_utf8 bytes e) (tokens_of bytes) refl
 on_text bytes false e = ((λ utf8. both_ways (is_utf8 bytes) e (is_utf8-from_IsUtf8 bytes utf8)), (refl, refl))
+
+-- ---- what the steps read
+
+as_tested : (bytes : List ℕ) (b : Bool) → is_utf8 bytes ≡ b → read_script bytes ≡ (if b then read_text bytes else Err not_text)
+unfolding read_script
+as_tested bytes b e = ap (λ (t : Bool). if t then read_text bytes else Err not_text) e
+
+pub text_read : (bytes : List ℕ) → IsUtf8 bytes → read_script bytes ≡ read_text bytes
+text_read bytes utf8 = as_tested bytes true (is_utf8-from_IsUtf8 bytes utf8)
+
+pub no_text_read : (bytes : List ℕ) → (IsUtf8 bytes → ⊥) → read_script bytes ≡ Err not_text
+no_text_read bytes h = go (is_utf8 bytes) refl
+  where
+    go : (b : Bool) → is_utf8 bytes ≡ b → read_script bytes ≡ Err not_text
+    go true e = absurd (h (IsUtf8-from_is_utf8 bytes e))
+    go false e = as_tested bytes false e
 
 pub scripts_are_read : ScriptsAreRead
 unfolding read_script

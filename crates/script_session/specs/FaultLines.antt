@@ -1,6 +1,5 @@
 -- The one line that tells a refusal.
 use Rattle.std.specs.Prelude.{ℕ, List, [], ◌∷◌, ◌++◌, codes, decimal}
-use Rattle.token_scan.specs.declared.token.Place.{Place}
 use Rattle.script_session.specs.declared.script.ScriptFault.{ScriptFault}
 use Rattle.script_session.specs.declared.script.ScriptKind.{ScriptKind}
 use Rattle.script_session.specs.declared.script.ScriptKind.TheVariants as kind
@@ -25,13 +24,13 @@ kind_text kind.Unfinished = codes "Unfinished"
 kind_text kind.TooDeep = codes "TooDeep"
 kind_text kind.NotBuilt = codes "NotBuilt"
 
--- LINE:COLUMN
-abbrev pub place_text : Place → List ℕ
-place_text place = decimal place.line ++ codes ":" ++ decimal place.column
+-- LINE:COLUMN: KIND
+abbrev pub fault_text : ScriptFault → List ℕ
+fault_text fault = decimal fault.place.line ++ (codes ":" ++ (decimal fault.place.column ++ (codes ": " ++ ended (kind_text fault.kind))))
 
 -- PATH:LINE:COLUMN: KIND
 abbrev pub script_line : List ℕ → ScriptFault → List ℕ
-script_line path fault = fault_line (ended (path ++ codes ":" ++ place_text fault.place ++ codes ": " ++ kind_text fault.kind))
+script_line path fault = fault_line (path ++ (codes ":" ++ fault_text fault))
 
 -- the table is of no form that is built
 abbrev pub table_line : List ℕ → List ℕ
