@@ -245,14 +245,8 @@ fn faults_of_scripts_have_places(rt: HostRuntime) -> Result<(), Fail> {
         (b"t |> filter() 'a", "1:15: OpenText"),
         (b"t |> filter(x > 5) \xff", "1:1: NotText"),
         (b"t", "1:1: NotBuilt"),
-        (
-            b"a <- t\na |> filter(x > 5) |> select(id)",
-            "1:1: NotBuilt",
-        ),
-        (
-            b"t |> filter(x > 5, x < 9) |> select(id)",
-            "1:1: NotBuilt",
-        ),
+        (b"a <- t\na |> filter(x > 5) |> select(id)", "1:1: NotBuilt"),
+        (b"t |> filter(x > 5, x < 9) |> select(id)", "1:1: NotBuilt"),
         (b"t |> filter(x = 5) |> select(id)", "1:1: NotBuilt"),
         (b"t |> filter(5 > x) |> select(id)", "1:1: NotBuilt"),
         (b"t |> filter(x > 5.0) |> select(id)", "1:1: NotBuilt"),

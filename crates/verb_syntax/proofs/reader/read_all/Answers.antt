@@ -21,10 +21,10 @@ loop-token-preserved c = (
       (reads_ok (take c.loop-token.token-index c.args.tokens.now) c.token-item.result c.loop-token.reader c.in-Ok.next
       c.loop-token.invariant.0 c.in-Ok.ensures),
   c.loop-token.invariant.1
-  ∙ (next_is c.args.end c.args.tokens.now c.loop-token.token-index c.token-item.result c.loop-token.reader c.in-Ok.next
-  c.loop-token-test.true c.token-item.is c.in-Ok.ensures
-  ∙ (let more : suc c.loop-token.token-index ≡ c.loop-token.token-index + 1 = omega arith in
-  ap (λ i. parsed_from c.args.end (drop i c.args.tokens.now) c.in-Ok.next) more)),
+      ∙ (next_is c.args.end c.args.tokens.now c.loop-token.token-index c.token-item.result c.loop-token.reader c.in-Ok.next
+      c.loop-token-test.true c.token-item.is c.in-Ok.ensures
+      ∙ (let more : suc c.loop-token.token-index ≡ c.loop-token.token-index + 1 = omega arith in
+      ap (λ i. parsed_from c.args.end (drop i c.args.tokens.now) c.in-Ok.next) more)),
 )
 
 pub returns-in-Err : goal.returns-in-Err
