@@ -1,6 +1,6 @@
 -- What the fields of a typed table say: a column's name and type, and the values of its rows.
-use Rattle.std.specs.Prelude.{ℕ, ℤ, pos, neg_ℤ, ◌==◌, ◌&&◌, ◌||◌, not, Bool, true, false, if◌then◌else◌, List, [], ◌∷◌, length, Option, Some, None, option_map, option_and_then, codes}
-use Rattle.std.specs.List.{before_last, after_last}
+use Rattle.std.specs.Prelude.{ℕ, ℤ, pos, neg_ℤ, ◌==◌, ◌&&◌, ◌||◌, not, nat_eq, nat_lt, Bool, true, false, if◌then◌else◌, List, length, drop, Option, Some, None, option_map, option_and_then, codes}
+use Rattle.std.specs.List.{starts_with, before_last, after_last}
 use Rattle.std.specs.Str.{bytes_eq}
 use Rattle.scalar_value.specs.declared.value.Value.{Value}
 use Rattle.scalar_value.specs.declared.value.Value.TheVariants.{Missing, Int, Dec, Chr, Day, Lgl}
@@ -42,8 +42,12 @@ digits_of_text text = if is_digits text then Some (value_of text) else None
 
 -- the whole number that digits write, or `-` and digits
 abbrev pub whole_of_text : List ℕ → Option ℤ
-whole_of_text [] = None
-whole_of_text (byte ∷ rest) = if byte == 45 then option_map (λ n. neg_ℤ (pos n)) (digits_of_text rest) else option_map (λ n. pos n) (digits_of_text (byte ∷ rest))
+whole_of_text text =
+    if starts_with nat_eq text (codes "-") then option_map (λ n. neg_ℤ (pos n)) (digits_of_text (drop 1 text)) else option_map (λ n. pos n) (digits_of_text text)
+
+-- a number below its limit
+abbrev pub below : ℕ → ℕ → Option ℕ
+below limit n = if nat_lt n limit then Some n else None
 
 -- within 64 bits
 abbrev pub within_int : ℤ → Option ℤ

@@ -2,7 +2,9 @@
 #![tactic(auto)]
 
 mod fault;
-mod probe;
+mod header;
+mod value;
 
 pub use fault::{TableFault, TableKind};
-pub use probe::first_record;
+pub use header::read_header;
+pub use value::read_value;
