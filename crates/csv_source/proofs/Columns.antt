@@ -1,7 +1,8 @@
 -- The columns of a header, one after another.
-use Rattle.std.proofs.Common.{◌≡◌, ℕ, suc, ◌+◌, ◌-◌, Bool, true, false, ◌&&◌, ◌||◌, not, List, [], ◌∷◌, ◌++◌, length, map, take, drop, refl, sym, ap, ◌∙◌, Option, Some, None, Result, Ok, Err, if◌then◌else◌, arith, ap₂, ◌==◌}
-use Rattle.std.proofs.lemmas.List.{map-append}
-use Rattle.std.specs.List.{after_last}
+use Rattle.std.proofs.Common.{◌≡◌, ℕ, suc, ◌+◌, ◌-◌, Bool, true, false, ◌&&◌, ◌||◌, not, List, [], ◌∷◌, ◌++◌, length, map, take, drop, refl, sym, ap, ◌∙◌, Option, Some, None, Result, Ok, Err, if◌then◌else◌, arith, ap₂, ◌==◌, ◌<◌, ◌≤◌, length-take, length-drop}
+use Rattle.std.proofs.lemmas.List.{map-append, take_all}
+use Rattle.std.proofs.lemmas.Bool.Decides.{nat_tests}
+use Rattle.std.specs.List.{after_last, suffix_len}
 use Rattle.std.specs.Option.{option_map, ok_or}
 use Rattle.std.specs.Str.{bytes_eq}
 use Rattle.std.specs.Cmp.Lexicographic.{bytes_decides}
@@ -83,3 +84,33 @@ pub name-push : (header : List (List ℕ)) (columns : List Field) (f : Field) (i
     → f.name ≡ name_of_text text → take (i + 1) header ≡ take i header ++ text ∷ [] → map (λ (g : Field). g.name) (columns ++ f ∷ []) ≡ map name_of_text (take (i + 1) header)
 name-push header columns f i text h n t =
     map-append (λ (g : Field). g.name) columns (f ∷ []) ∙ ap₂ (λ xs x. xs ++ x ∷ []) h n ∙ sym (map-append name_of_text (take i header) (text ∷ [])) ∙ ap (map name_of_text) (sym t)
+
+-- ---- the parts of a field
+
+-- where what stands behind the last colon begins
+abbrev pub colon_end : List ℕ → ℕ
+colon_end text = length text - suffix_len (λ byte. not (is_colon byte)) text
+
+short_name : (text : List ℕ) (n : ℕ) → n < 2 → (length (take (n - 1) text) == 0) ≡ true
+short_name text n h = let none : n - 1 ≡ 0 = omega arith in rw none refl
+
+pub column_short : (text : List ℕ) (n : ℕ) → n ≡ colon_end text → n < 2 → None ≡ column_of_text text
+unfolding column_of_text
+column_short text n e h =
+    let short : (length (name_of_text text) == 0) ≡ true = ap (λ k. length (take (k - 1) text) == 0) (sym e) ∙ short_name text n h in
+    sym (ap (λ b. if b then None else option_map (λ k. record { name = name_of_text text; kind = k }) (type_of_text (after_last is_colon text))) short)
+
+behind_end : (text : List ℕ) (n : ℕ) → take (length text - n) (drop n text) ≡ drop n text
+behind_end text n = take_all (length text - n) (drop n text) (omega (arith, length-drop n text))
+
+long_name : (text : List ℕ) (n : ℕ) → 2 ≤ n → n ≤ length text → (length (take (n - 1) text) == 0) ≡ false
+long_name text n low high = let some : length (take (n - 1) text) ≡ n - 1 = omega (arith, length-take (n - 1) text) in rw some (grind (arith, nat_tests))
+
+pub column_parts : (text : List ℕ) (n : ℕ) (o : Option ColType) → n ≡ colon_end text → 2 ≤ n → n ≤ length text → o ≡ type_of_text (take (length text - n) (drop n text))
+    → option_map (λ k. record { name = take (n - 1) text; kind = k }) o ≡ column_of_text text
+unfolding column_of_text
+column_parts text n o e low high t =
+    let some : (length (name_of_text text) == 0) ≡ false = ap (λ k. length (take (k - 1) text) == 0) (sym e) ∙ long_name text n low high in
+    let kind : o ≡ type_of_text (after_last is_colon text) = t ∙ ap type_of_text (behind_end text n) ∙ ap (λ k. type_of_text (drop k text)) e in
+    ap₂ (λ k r. option_map (λ z. record { name = take (k - 1) text; kind = z }) r) e kind
+    ∙ sym (ap (λ b. if b then None else option_map (λ k. record { name = name_of_text text; kind = k }) (type_of_text (after_last is_colon text))) some)

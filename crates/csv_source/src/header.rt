@@ -1,11 +1,11 @@
 //! The header of a table: its columns.
-ghost use Rattle.std.specs.Prelude.{◌≡◌, ◌-◌, ◌<◌, ◌≤◌, not, length, map, slice_index, IfOk, IsTrue, IsUtf8};
+ghost use Rattle.std.specs.Prelude.{◌≡◌, ◌-◌, ◌<◌, ◌≤◌, ◌^◌, not, length, map, slice_index, IfOk, IsTrue, IsUtf8};
 ghost use Rattle.std.specs.List.{suffix_len};
 ghost use Rattle.csv.specs.Records.{AllText, fields_of};
 ghost use Rattle.row_table.specs.Tables.{among_texts, names_differ};
 ghost use Rattle.scalar_value.specs.Gives.{Gives};
 ghost use Rattle.csv_source.specs.Fields.{column_of_text, is_colon, type_of_text};
-ghost use Rattle.csv_source.specs.Typed.{columns_of};
+ghost use Rattle.csv_source.specs.Typed.{columns_of, fault_at};
 
 use crate::fault::{TableFault, TableKind};
 use crate::value::text_of;
@@ -79,6 +79,8 @@ fn is_named(columns: &[Field], name: &str) -> bool
 }
 
 fn fault_at(kind: TableKind, column: usize) -> Or<TableFault>
+    requires { column < 2 ^ 32 }
+    ensures { result ≡ Or.Fault (fault_at kind 0 column) }
 {
     Or::Fault(TableFault {
         kind,
