@@ -44,3 +44,6 @@ unfolding field_at
 take-field [] i x h = cc h
 take-field (y ∷ ys) zero x h = let e : y ≡ x = cc in ap (λ z. z ∷ []) e
 take-field (y ∷ ys) (suc i) x h = let e : suc i + 1 ≡ suc (i + 1) = omega arith in rw e (ap (λ t. y ∷ t) (take-field ys i x h))
+
+pub ended : {A B F : Type 0} (f : ℕ → A → Result B F) (k : ℕ) (rest : List A) (made : List B) → rest ≡ [] → after made (each_ok f k rest) ≡ Ok made
+ended f k rest made e = ap (λ r. after made (each_ok f k r)) e ∙ ap (λ ys. Ok ys) (append-nil made)

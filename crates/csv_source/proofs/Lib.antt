@@ -1,3 +1,6 @@
+pub mod Columns
+pub mod Days
 pub mod Digits
 pub mod Each
-pub mod Columns
+pub mod NextRecords
+pub mod Rows

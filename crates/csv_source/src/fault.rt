@@ -1,3 +1,6 @@
+ghost use Rattle.std.specs.Prelude.{◌≡◌, ◌<◌, ◌^◌};
+
+use scalar_value::Or;
 use thiserror::Error;
 
 /// The first fault of a table's file, and where it stands. Rows and columns count from 1; row 0 is the header,
@@ -29,4 +32,20 @@ pub enum TableKind {
     Ragged,
     #[error("no value of the column's type")]
     BadField,
+}
+
+impl TableKind {
+    ghost use Rattle.csv_source.specs.Typed.{fault_at};
+
+    /// The fault of this kind at a row and a column.
+    pub fn at(self, row: u64, column: usize) -> Or<TableFault>
+        requires { column < 2 ^ 32 }
+        ensures { result ≡ Or.Fault (fault_at self row column) }
+    {
+        Or::Fault(TableFault {
+            kind: self,
+            row,
+            column: column as u32,
+        })
+    }
 }

@@ -1,17 +1,17 @@
 //! The header of a table: its columns.
-ghost use Rattle.std.specs.Prelude.{◌≡◌, ◌-◌, ◌<◌, ◌≤◌, ◌^◌, not, length, map, slice_index, IfOk, IsTrue, IsUtf8};
+ghost use Rattle.std.specs.Prelude.{◌≡◌, ◌-◌, ◌<◌, ◌≤◌, not, length, map, slice_index, IfOk, IsTrue, IsUtf8};
 ghost use Rattle.std.specs.List.{suffix_len};
 ghost use Rattle.csv.specs.Records.{AllText, fields_of};
 ghost use Rattle.row_table.specs.Tables.{among_texts, names_differ};
 ghost use Rattle.scalar_value.specs.Gives.{Gives};
 ghost use Rattle.csv_source.specs.Fields.{column_of_text, is_colon, type_of_text};
-ghost use Rattle.csv_source.specs.Typed.{columns_of, fault_at};
+ghost use Rattle.csv_source.specs.Typed.{columns_of};
 
 use crate::fault::{TableFault, TableKind};
 use crate::value::text_of;
 use csv::ByteRecord;
 use row_table::{Field, Schema};
-use scalar_value::{ColType, Mem, Or, Res, Seq, Text};
+use scalar_value::{ColType, Mem, Res, Seq, Text};
 use std::alloc::Global;
 
 /// Where the text behind the last colon begins, and 0 where there is no colon.
@@ -78,17 +78,6 @@ fn is_named(columns: &[Field], name: &str) -> bool
     false
 }
 
-fn fault_at(kind: TableKind, column: usize) -> Or<TableFault>
-    requires { column < 2 ^ 32 }
-    ensures { result ≡ Or.Fault (fault_at kind 0 column) }
-{
-    Or::Fault(TableFault {
-        kind,
-        row: 0,
-        column: column as u32,
-    })
-}
-
 /// The columns that the fields of a header name.
 pub fn read_header(alloc: Global, header: &ByteRecord) -> Res<Schema, TableFault>
     requires few { length (fields_of header.now) ≤ 1024 }
@@ -102,10 +91,10 @@ pub fn read_header(alloc: Global, header: &ByteRecord) -> Res<Schema, TableFault
             unreachable!()
         };
         let Some(column) = column_of(alloc, field)? else {
-            return Err(fault_at(TableKind::HeaderType, place + 1));
+            return Err(TableKind::HeaderType.at(0, place + 1));
         };
         if is_named(columns.as_slice(), column.name.as_str()) {
-            return Err(fault_at(TableKind::NameTwice, place + 1));
+            return Err(TableKind::NameTwice.at(0, place + 1));
         }
         columns.push(column)?;
     }

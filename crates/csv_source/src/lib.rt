@@ -3,8 +3,9 @@
 
 mod fault;
 mod header;
+mod row;
+mod table;
 mod value;
 
 pub use fault::{TableFault, TableKind};
-pub use header::read_header;
-pub use value::read_value;
+pub use table::read_table;

@@ -23,7 +23,7 @@ returns-in_default-2-clause-value c =
     let header = fields_of c.args.header.now in
     let here = rw (drop-field header c.loop-place.place c.in-Some.field.now (sym c.in-Some.ensures.value)) at c.loop-place.invariant.value in
     let none = column_none header (c.loop-place.place + 1) c.in-Some.field.now (sym c.in_ok-column.ensures ∙ c.in_default-2.is) in
-    rw c.fault_at.ensures (sym here ∙ stops (column_at header) (c.loop-place.place + 1) c.in-Some.field.now _ _ _ none)
+    rw c.at.ensures (sym here ∙ stops (column_at header) (c.loop-place.place + 1) c.in-Some.field.now _ _ _ none)
 
 pub returns-then-is_named-clause-value : goal.returns-then-is_named-clause-value
 returns-then-is_named-clause-value c =
@@ -31,7 +31,7 @@ returns-then-is_named-clause-value c =
     let here = rw (drop-field header c.loop-place.place c.in-Some.field.now (sym c.in-Some.ensures.value)) at c.loop-place.invariant.value in
     let named = rw (c.as_str.ensures.value, c.as_slice.ensures.value) at (sym c.is_named.ensures ∙ c.if-is_named.true) in
     let twice = column_twice header c.loop-place.place c.in-Some.field.now c.in-Some-2.column (map (λ (f : Field). f.name) c.loop-place.columns.items) (sym c.in_ok-column.ensures ∙ c.in-Some-2.is) c.loop-place.invariant.names named in
-    rw c.fault_at-then-is_named.ensures (sym here ∙ stops (column_at header) (c.loop-place.place + 1) c.in-Some.field.now _ _ _ twice)
+    rw c.at-then-is_named.ensures (sym here ∙ stops (column_at header) (c.loop-place.place + 1) c.in-Some.field.now _ _ _ twice)
 
 pub loop-place-preserved : goal.loop-place-preserved
 loop-place-preserved c =
