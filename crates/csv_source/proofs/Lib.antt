@@ -4,3 +4,4 @@ pub mod Digits
 pub mod Each
 pub mod NextRecords
 pub mod Rows
+pub mod Tables

@@ -83,6 +83,7 @@ pub fn read_header(alloc: Global, header: &ByteRecord) -> Res<Schema, TableFault
     requires few { length (fields_of header.now) ≤ 1024 }
     requires text { AllText (fields_of header.now) }
     ensures value { Gives result (columns_of (fields_of header.now)) }
+    ensures few { IfOk result (λ columns. length columns ≤ 1024) }
     ensures differ { IfOk result (λ columns. IsTrue (names_differ columns)) }
 {
     let mut columns: Vec<Field> = Vec::with_capacity(alloc, header.len())?;

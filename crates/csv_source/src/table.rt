@@ -1,8 +1,10 @@
 //! A typed table from the bytes of a file.
 ghost use Rattle.std.specs.Prelude.{◌≡◌, IfOk, IsUtf8};
+ghost use Rattle.csv.specs.Reading.{strip_bom};
 ghost use Rattle.csv.specs.Records.{fields_of};
+ghost use Rattle.csv.specs.declared.parser.State.TheVariants as st;
 ghost use Rattle.scalar_value.specs.Gives.{Gives};
-ghost use Rattle.csv_source.specs.Readers.{ReadsNextRecord};
+ghost use Rattle.csv_source.specs.Readers.{IsAt, ReadsNextRecord};
 ghost use Rattle.csv_source.specs.Records.{records_of};
 ghost use Rattle.csv_source.specs.Typed.{table_of_records, typed};
 
@@ -17,6 +19,17 @@ use std::str;
 
 /// The greatest number of columns of a table.
 const COLUMN_LIMIT: usize = 1024;
+
+/// A reader at the start of a text: of csv's default settings, but that records may have any number of fields and none
+/// is a header.
+fn reader_of(alloc: Global, text: &[u8]) -> Reader<&[u8]>
+    ensures { IsAt result st.StartRecord (strip_bom text.now) }
+{
+    ReaderBuilder::new()
+        .has_headers(false)
+        .flexible(true)
+        .from_reader(alloc, text)
+}
 
 /// The next record, and whether there is one. Each error of csv is want of memory here: of bytes in memory, whose
 /// records may have any number of fields, csv has no other.
@@ -34,10 +47,7 @@ fn read_records(alloc: Global, text: &[u8]) -> Res<Table, TableFault>
     requires { IsUtf8 text.now }
     ensures { Gives result (table_of_records (records_of text.now)) }
 {
-    let mut reader = ReaderBuilder::new()
-        .has_headers(false)
-        .flexible(true)
-        .from_reader(alloc, text);
+    let mut reader = reader_of(alloc, text);
     let mut fields = ByteRecord::new(alloc);
     if !read_next(&mut reader, &mut fields)? {
         return Err(TableKind::NoHeader.at(0, 0));
@@ -45,7 +55,10 @@ fn read_records(alloc: Global, text: &[u8]) -> Res<Table, TableFault>
     if fields.len() > COLUMN_LIMIT {
         return Err(TableKind::TooManyColumns.at(0, COLUMN_LIMIT + 1));
     }
-    let schema = read_header(alloc, &fields)?;
+    let schema = match read_header(alloc, &fields) {
+        Ok(schema) => schema,
+        Err(refusal) => return Err(refusal),
+    };
     let mut rows = Vec::new(alloc);
     for number in 1..u64::MAX {
         if !read_next(&mut reader, &mut fields)? {
@@ -56,7 +69,10 @@ fn read_records(alloc: Global, text: &[u8]) -> Res<Table, TableFault>
                 rows: Seq::of(rows),
             });
         }
-        rows.push(read_row(alloc, schema.as_slice(), number, &fields)?)?;
+        match read_row(alloc, schema.as_slice(), number, &fields) {
+            Ok(row) => rows.push(row)?,
+            Err(refusal) => return Err(refusal),
+        }
     }
     Err(Or::Memory)
 }

@@ -1,4 +1,5 @@
 use Rattle.std.proofs.Common.{arith, ap, sym, refl, ◌∙◌, ◌+◌, ◌-◌, Bor, map, drop, ◌∷◌, List, ℕ}
+use Rattle.std.proofs.lemmas.List.{length_push}
 use Rattle.csv.specs.Records.{fields_of}
 use Rattle.csv.proofs.RecordFacts.{field-there, text-of}
 use Rattle.row_table.specs.declared.field.Field.{Field}
@@ -10,7 +11,7 @@ use Rattle.csv_source.proofs.header.read_header.Goals as goal
 
 pub loop-place-init : goal.loop-place-init
 unfolding columns_of
-loop-place-init c = rw c.in_ok-columns.ensures.items (record { value = after-nil _; names = refl; differ = refl })
+loop-place-init c = rw c.in_ok-columns.ensures.items (record { value = after-nil _; count = refl; names = refl; differ = refl })
 
 pub unreachable-requires : goal.unreachable-requires
 unreachable-requires c = field-there (fields_of c.args.header.now) c.loop-place.place (omega (arith, c.len-place-end.ensures)) (sym c.in_default.ensures.value)
@@ -45,6 +46,7 @@ loop-place-preserved c =
     let there = column_there header place c.in-Some.field.now column (map (λ (f : Field). f.name) c.loop-place.columns.items) given c.loop-place.invariant.names other in
     rw c.in_ok-push.ensures.items (record {
       value = goes_on (column_at header) (place + 1) c.in-Some.field.now (drop (place + 1) header) c.loop-place.columns.items column there ∙ here;
+      count = length_push c.loop-place.columns.items column ∙ ap (λ n. n + 1) c.loop-place.invariant.count;
       names = name-push header c.loop-place.columns.items column place c.in-Some.field.now c.loop-place.invariant.names (name-column c.in-Some.field.now column given) (take-field header place c.in-Some.field.now at_place);
       differ = differ-push c.loop-place.columns.items column c.loop-place.invariant.differ other;
     })
