@@ -1,10 +1,11 @@
-use Rattle.std.proofs.Common.{◌≡◌, arith, sym, refl, ◌∙◌, []}
+use Rattle.std.proofs.Common.{ap, arith, refl, ◌∙◌, []}
 use Rattle.csv.specs.Machine.{next_record}
 use Rattle.csv.specs.Reading.{default_config, strip_bom}
 use Rattle.csv.specs.Records.{fields_of}
 use Rattle.csv.specs.declared.parser.State.TheVariants as st
+use Rattle.csv_source.proofs.Each.{after-nil}
 use Rattle.csv_source.proofs.NextRecords.{at_start, next_behind, next_textual, none_shown, rest_records, some_shown, unmarked}
-use Rattle.csv_source.proofs.Tables.{fit-push, header_refused, header_there, many_columns, no_header, row_here, row_more, row_refused, rows_end}
+use Rattle.csv_source.proofs.Tables.{finished, fit-push, header_refused, header_there, many_columns, no_header, row_here, row_more, row_refused, rows_end}
 use Rattle.csv_source.proofs.table.read_records.Goals as goal
 
 pub returns-then-not-branch : goal.returns-then-not-branch
@@ -53,7 +54,7 @@ loop-number-init c =
       at_left = first.3;
       between = (next_behind xs st.StartRecord first.0 at_start first.1).0;
       text = (next_textual xs st.StartRecord first.0 at_start (unmarked c.args.text.now c.requires) first.1).rest;
-      value = ?;
+      value = ap (finished c.in-Ok.schema) (after-nil _) ∙ header_there xs first.0 (fields_of c.read_next.new.fields) c.in-Ok.schema first.1 first.2 (omega arith) c.in-Ok.ensures.value;
     })
 
 pub returns-then-not-branch-2 : goal.returns-then-not-branch-2
@@ -61,7 +62,7 @@ returns-then-not-branch-2 c =
     let inv = c.loop-number.invariant in
     let shown = c.in_ok-read_next-2.ensures inv.state inv.left inv.at_left in
     let none = none_shown (next_record default_config inv.state [] [] inv.left) c.read_next-in-loop-number.new.reader c.in_ok-read_next-2.field-0 (fields_of c.read_next-in-loop-number.new.fields) shown c.if-not-branch-2.true in
-    rw (c.new-then-not-branch-2.ensures, c.of.ensures) (rows_end c.loop-number.schema c.loop-number.rows.items c.loop-number.number inv.state inv.left _ none inv.value)
+    rw (c.new.ensures, c.of.ensures) (rows_end c.loop-number.schema c.loop-number.rows.items c.loop-number.number inv.state inv.left _ none inv.value)
 
 pub read_row-requires-clause-text : goal.read_row-requires-clause-text
 read_row-requires-clause-text c =
@@ -71,7 +72,32 @@ read_row-requires-clause-text c =
     rw next.2 (next_textual inv.left inv.state next.0 inv.between inv.text next.1).fields
 
 pub returns-in-Err-read_row : goal.returns-in-Err-read_row
-returns-in-Err-read_row c = ?
+returns-in-Err-read_row c =
+    let inv = c.loop-number.invariant in
+    let fields = fields_of c.read_next-in-loop-number.new.fields in
+    let shown = c.in_ok-read_next-2.ensures inv.state inv.left inv.at_left in
+    let next = some_shown (next_record default_config inv.state [] [] inv.left) c.read_next-in-loop-number.new.reader c.in_ok-read_next-2.field-0 fields shown c.if-not-branch-2.false in
+    let here = row_here c.loop-number.schema c.loop-number.rows.items c.loop-number.number inv.state inv.left next.0 fields _ inv.between next.1 next.2 inv.value in
+    let given = rw c.as_slice.ensures at c.in-Err-read_row.ensures.value in
+    row_refused c.loop-number.schema c.loop-number.rows.items c.loop-number.number fields (rest_records next.0.1 next.0.2) c.in-Err-read_row.refusal _ given here
 
 pub loop-number-preserved : goal.loop-number-preserved
-loop-number-preserved c = ?
+loop-number-preserved c =
+    let inv = c.loop-number.invariant in
+    let fields = fields_of c.read_next-in-loop-number.new.fields in
+    let shown = c.in_ok-read_next-2.ensures inv.state inv.left inv.at_left in
+    let next = some_shown (next_record default_config inv.state [] [] inv.left) c.read_next-in-loop-number.new.reader c.in_ok-read_next-2.field-0 fields shown c.if-not-branch-2.false in
+    let here = row_here c.loop-number.schema c.loop-number.rows.items c.loop-number.number inv.state inv.left next.0 fields _ inv.between next.1 next.2 inv.value in
+    let given = rw c.as_slice.ensures at c.in-Ok-read_row.ensures.value in
+    let fits = rw c.as_slice.ensures at c.in-Ok-read_row.ensures.fits in
+    rw c.in_ok-push-in-Ok-read_row.ensures.items (record {
+      few = inv.few;
+      differ = inv.differ;
+      fit = fit-push c.loop-number.schema c.loop-number.rows.items c.in-Ok-read_row.row inv.fit fits;
+      state = next.0.1;
+      left = next.0.2;
+      at_left = next.3;
+      between = (next_behind inv.left inv.state next.0 inv.between next.1).0;
+      text = (next_textual inv.left inv.state next.0 inv.between inv.text next.1).rest;
+      value = row_more c.loop-number.schema c.loop-number.rows.items c.loop-number.number fields (rest_records next.0.1 next.0.2) c.in-Ok-read_row.row _ given here;
+    })
