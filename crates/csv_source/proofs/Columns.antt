@@ -1,16 +1,16 @@
 -- The columns of a header, one after another.
-use Rattle.std.proofs.Common.{◌≡◌, ℕ, suc, ◌+◌, ◌-◌, Bool, true, false, ◌&&◌, ◌||◌, not, List, [], ◌∷◌, ◌++◌, length, map, take, drop, refl, sym, ap, ◌∙◌, Option, Some, None, Result, Ok, Err, if◌then◌else◌, arith, ap₂, ◌==◌, ◌<◌, ◌≤◌, length-take, length-drop}
+use Rattle.std.proofs.Common.{◌≡◌, ℕ, ◌+◌, ◌-◌, Bool, true, false, ◌&&◌, ◌||◌, not, List, [], ◌∷◌, ◌++◌, length, map, take, drop, refl, sym, ap, ◌∙◌, Option, Some, None, Ok, Err, if◌then◌else◌, arith, ap₂, ◌==◌, ◌<◌, ◌≤◌, length-take, length-drop}
 use Rattle.std.proofs.lemmas.List.{map-append, take_all}
 use Rattle.std.proofs.lemmas.Bool.Decides.{nat_tests}
 use Rattle.std.specs.List.{after_last, suffix_len}
-use Rattle.std.specs.Option.{option_map, ok_or}
+use Rattle.std.specs.Option.{option_map}
 use Rattle.std.specs.Str.{bytes_eq}
 use Rattle.std.specs.Cmp.Lexicographic.{bytes_decides}
 use Rattle.row_table.specs.declared.field.Field.{Field}
 use Rattle.row_table.specs.Tables.{among_texts, has_name, names_differ}
 use Rattle.scalar_value.specs.declared.value.ColType.{ColType}
 use Rattle.csv_source.specs.Fields.{column_of_text, name_of_text, type_of_text, is_colon}
-use Rattle.csv_source.specs.Typed.{column_at, columns_of, fault_at}
+use Rattle.csv_source.specs.Typed.{column_at, fault_at}
 use Rattle.csv_source.specs.declared.fault.TableKind.TheVariants as fault
 
 -- ---- a column more, of another name

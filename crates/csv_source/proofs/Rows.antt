@@ -1,5 +1,5 @@
 -- The rows of a table, and that they fit its columns.
-use Rattle.std.proofs.Common.{◌≡◌, ℕ, zero, suc, ◌+◌, ◌<◌, Bool, true, false, List, [], ◌∷◌, ◌++◌, length, get_or, drop, refl, sym, ap, ◌∙◌, Option, Some, None, Result, Ok, Err, if◌then◌else◌, arith, ℤ, ◌==◌, ◌&&◌, eqb-true, eq-eqb}
+use Rattle.std.proofs.Common.{◌≡◌, ℕ, zero, suc, ◌+◌, ◌<◌, Bool, true, false, List, [], ◌∷◌, length, get_or, drop, refl, sym, ap, ◌∙◌, Option, Some, None, Result, Ok, Err, if◌then◌else◌, arith, ◌==◌, eqb-true, eq-eqb}
 use Rattle.std.specs.Option.{option_map, ok_or}
 use Rattle.std.specs.List.{zip}
 use Rattle.csv.specs.Records.{field_at}
@@ -8,11 +8,10 @@ use Rattle.scalar_value.specs.declared.value.Value.TheVariants.{Missing, Int, De
 use Rattle.scalar_value.specs.declared.value.ColType.{ColType}
 use Rattle.scalar_value.specs.declared.value.ColType.TheVariants as kind
 use Rattle.scalar_value.specs.Decimals.{dec_of_text}
-use Rattle.scalar_value.specs.Order.{is_of_type, is_day}
+use Rattle.scalar_value.specs.Order.{is_of_type}
 use Rattle.scalar_fns.specs.Days.{day_of_text}
 use Rattle.row_table.specs.declared.field.Field.{Field}
 use Rattle.row_table.specs.Tables.{fits_row}
-use Rattle.csv_source.specs.declared.fault.TableFault.{TableFault}
 use Rattle.csv_source.specs.declared.fault.TableKind.TheVariants as fault
 use Rattle.csv_source.specs.Fields.{int_of_text, is_missing_text, truth_of_text, value_of_field, value_of_text}
 use Rattle.csv_source.specs.Steps.{◌>>=◌, each_ok}

@@ -1,5 +1,5 @@
 -- The table that is made of the rows.
-use Rattle.std.proofs.Common.{◌≡◌, ℕ, ◌+◌, Bool, true, false, ◌&&◌, List, [], ◌∷◌, ◌++◌, length, ◌<◌, ◌≤◌, nat_le, arith, refl, sym, ap, ◌∙◌, Option, Some, None, Result, Ok, Err}
+use Rattle.std.proofs.Common.{◌≡◌, ℕ, ◌+◌, Bool, true, false, ◌&&◌, List, [], ◌∷◌, ◌++◌, length, ◌<◌, ◌≤◌, nat_le, arith, refl, sym, ap, ◌∙◌, Some, None, Result, Ok, Err}
 use Rattle.scalar_value.specs.declared.value.Value.{Value}
 use Rattle.row_table.specs.declared.field.Field.{Field}
 use Rattle.row_table.specs.Tables.{TableValue, fit_rows, fits_row}

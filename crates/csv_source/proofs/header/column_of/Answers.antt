@@ -1,4 +1,4 @@
-use Rattle.std.proofs.Common.{arith, ap, sym, ◌∙◌, ◌-◌}
+use Rattle.std.proofs.Common.{arith, ◌∙◌, ◌-◌}
 use Rattle.std.proofs.lemmas.Str.{IsUtf8-take, IsCharBoundary-before_ascii}
 use Rattle.csv_source.proofs.Columns.{column_parts, column_short}
 use Rattle.csv_source.proofs.header.column_of.Goals as goal

@@ -1,9 +1,8 @@
-use Rattle.std.proofs.Common.{arith, ap, sym, refl, ◌∙◌, ◌+◌, ◌-◌, Bor, map, drop, ◌∷◌, List, ℕ}
+use Rattle.std.proofs.Common.{arith, ap, sym, refl, ◌∙◌, ◌+◌, map, drop}
 use Rattle.std.proofs.lemmas.List.{length_push}
 use Rattle.csv.specs.Records.{fields_of}
 use Rattle.csv.proofs.RecordFacts.{field-there, text-of}
 use Rattle.row_table.specs.declared.field.Field.{Field}
-use Rattle.csv_source.specs.Fields.{name_of_text}
 use Rattle.csv_source.specs.Typed.{column_at, columns_of}
 use Rattle.csv_source.proofs.Each.{after-nil, drop-field, goes_on, stops, take-field}
 use Rattle.csv_source.proofs.Columns.{column_none, column_there, column_twice, differ-push, name-column, name-push}

@@ -1,12 +1,10 @@
-use Rattle.std.proofs.Common.{arith, ap, sym, refl, ◌∙◌, ◌+◌, drop, length, ◌≡◌, Ok}
+use Rattle.std.proofs.Common.{arith, ap, sym, ◌∙◌, ◌+◌, drop, length, ◌≡◌, Ok}
 use Rattle.std.specs.List.{zip}
 use Rattle.std.proofs.lemmas.Bool.{ne_eqb}
 use Rattle.csv.specs.Records.{fields_of}
 use Rattle.csv.proofs.RecordFacts.{field-there, text-of}
-use Rattle.scalar_value.specs.declared.value.Value.{Value}
-use Rattle.csv_source.specs.Steps.{each_ok}
 use Rattle.csv_source.specs.Typed.{row_at, value_at}
-use Rattle.csv_source.proofs.Each.{after, after-nil, ended, goes_on, stops}
+use Rattle.csv_source.proofs.Each.{after-nil, ended, goes_on, stops}
 use Rattle.csv_source.proofs.Rows.{cell_none, cell_there, drop-cell_at, even_row, ragged_row, row_fits, zip-drop_all}
 use Rattle.csv_source.proofs.row.read_row.Goals as goal
 

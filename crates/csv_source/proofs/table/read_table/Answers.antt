@@ -1,9 +1,7 @@
 use Rattle.std.proofs.Common.{◌≡◌, refl, Bool, true, false}
 use Rattle.std.specs.Str.{is_utf8}
 use Rattle.std.proofs.lemmas.Str.{IsUtf8-from_is_utf8, is_utf8-from_IsUtf8}
-use Rattle.csv_source.specs.Records.{records_of}
-use Rattle.csv_source.specs.Typed.{fault_at, table_of_records, typed}
-use Rattle.csv_source.specs.declared.fault.TableKind.TheVariants as fault
+use Rattle.csv_source.specs.Typed.{typed}
 use Rattle.csv_source.proofs.table.read_table.Goals as goal
 
 pub returns-in-Ok : goal.returns-in-Ok

@@ -1,4 +1,4 @@
-use Rattle.std.proofs.Common.{◌∙◌, inl, inr}
+use Rattle.std.proofs.Common.{◌∙◌, inr}
 use Rattle.csv_source.proofs.table.reader_of.Goals as goal
 
 pub returns : goal.returns
