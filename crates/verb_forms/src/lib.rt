@@ -1,0 +1,17 @@
+//! The checked form of verbs, the shape of a table, and the shape after a verb.
+//!
+//! What checks a script and what runs a verb share these: a verb names columns by their places, and its expressions
+//! have types.
+#![tactic(auto)]
+
+mod after;
+mod part;
+mod pivot;
+mod shape;
+mod verb;
+
+pub use after::shape_after;
+pub use part::{Part, VerbWindow};
+pub use pivot::{PivotFault, PivotSpec};
+pub use shape::Shape;
+pub use verb::Verb;
