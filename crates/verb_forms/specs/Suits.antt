@@ -1,5 +1,5 @@
 -- What the check of a script promises of a verb for the shape of its table.
-use Rattle.std.specs.Prelude.{ℕ, Bool, true, false, ◌&&◌, ◌||◌, not, nat_lt, List, [], ◌∷◌, length, map, Result, Ok, Err, IsTrue}
+use Rattle.std.specs.Prelude.{ℕ, Bool, true, false, ◌&&◌, ◌||◌, not, nat_lt, List, [], ◌∷◌, length, Result, Ok, Err, IsTrue}
 use Rattle.std.specs.List.{list_any, list_all}
 use Rattle.std.specs.Str.{bytes_eq}
 use Rattle.std.specs.Cmp.Lexicographic.{pointwise}
@@ -23,8 +23,14 @@ is_empty [] = true
 is_empty (x ∷ xs) = false
 
 -- whether each of these is the place of a column
+abbrev pub is_place : List Field → ℕ → Bool
+is_place schema at = nat_lt at (length schema)
+
 abbrev pub are_places : List Field → List ℕ → Bool
-are_places schema columns = list_all (λ at. nat_lt at (length schema)) columns
+are_places schema columns = list_all (is_place schema) columns
+
+abbrev pub are_chosen : List Field → List (ℕ × List ℕ) → Bool
+are_chosen schema chosen = list_all (λ c. is_place schema c.0) chosen
 
 -- whether these columns group a verb: those of `.by` where the table has no groups, else the table's groups
 abbrev pub is_grouping : ShapeValue → List ℕ → Bool
@@ -39,27 +45,29 @@ abbrev pub is_truth : Result ColType TypeFault → Bool
 is_truth (Ok t) = is_kind t Lgl
 is_truth (Err f) = false
 
--- a condition is a truth value over the columns; aggregates and window calls are not built yet
+-- a condition is a truth value over the columns; aggregates and window calls in expressions are not built yet
 abbrev pub is_condition : List Field → Part → Bool
 is_condition schema part = is_empty part.calls && is_truth (typed schema part.value)
 
 -- each expression of `mutate` has a type over the columns that the ones before it leave
+abbrev pub is_typed : List Field → Part → Bool
+is_typed schema part = is_empty part.calls && has_type (typed schema part.value)
+
 abbrev pub are_typed : List Field → List (List ℕ × Part) → Bool
 are_typed schema [] = true
-are_typed schema (value ∷ values) =
-    (is_empty value.1.calls && has_type (typed schema value.1.value)) && are_typed (with_part schema value) values
+are_typed schema (value ∷ values) = is_typed schema value.1 && are_typed (with_part schema value) values
 
 -- whether a column may hold the value that replaces its missing ones
 abbrev pub fits_column : List Field → ℕ × Value → Bool
-fits_column schema cell = nat_lt cell.0 (length schema) && is_of_type (kind_at schema cell.0) cell.1
+fits_column schema cell = is_place schema cell.0 && is_of_type (kind_at schema cell.0) cell.1
 
 -- whether the parts of a verb fit the shape; the verbs that are not named here are not built yet
 abbrev pub has_form : Verb → ShapeValue → Bool
 has_form (Filter by conditions) x = is_grouping x by && list_all (is_condition x.schema) conditions
 has_form (Mutate by values) x = is_grouping x by && are_typed x.schema values
-has_form (Select chosen) x = are_places x.schema (map (λ c. c.0) chosen)
-has_form (Rename chosen) x = are_places x.schema (map (λ c. c.0) chosen)
-has_form (Relocate chosen) x = are_places x.schema (map (λ c. c.0) chosen)
+has_form (Select chosen) x = are_chosen x.schema chosen
+has_form (Rename chosen) x = are_chosen x.schema chosen
+has_form (Relocate chosen) x = are_chosen x.schema chosen
 has_form (GroupBy columns) x = are_places x.schema columns
 has_form Ungroup x = true
 has_form (DropNa columns) x = are_places x.schema columns
