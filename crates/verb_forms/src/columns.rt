@@ -63,7 +63,10 @@ pub fn names_differ(fields: &[Field]) -> bool
 pub fn place_of(name: &Text, schema: &Schema) -> Option<usize>
     ensures { result ≡ place name.now schema.now }
 {
-    schema.as_slice().iter().position(|field| field.name == *name)
+    schema
+        .as_slice()
+        .iter()
+        .position(|field| field.name == *name)
 }
 
 /// Puts an element in the place of an old one, or last where there is no place. The list is moved.
@@ -110,11 +113,7 @@ pub fn chosen_columns(alloc: Global, schema: &Schema, chosen: &[(u32, Text)]) ->
 }
 
 /// The old and the new names of these columns.
-pub fn renamings(
-    alloc: Global,
-    schema: &Schema,
-    chosen: &[(u32, Text)],
-) -> Mem<Seq<(Text, Text)>>
+pub fn renamings(alloc: Global, schema: &Schema, chosen: &[(u32, Text)]) -> Mem<Seq<(Text, Text)>>
     ensures { IfOk result (λ made. made ≡ pairs_of schema.now chosen.now) }
 {
     let mut made = Seq::new(alloc);

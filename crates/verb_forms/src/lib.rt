@@ -17,5 +17,8 @@ pub use columns::{has_name, names_at, names_differ, place_of, put, with_column};
 pub use part::{Part, VerbWindow};
 pub use pivot::{PivotFault, PivotSpec};
 pub use shape::Shape;
-pub use suiting::{suits, writes_group};
+pub use suiting::{are_groups, fits, suits, writes_group};
 pub use verb::Verb;
+
+#[cfg(test)]
+mod tests;

@@ -72,7 +72,7 @@ fn are_typed(values: &[(Text, Part)], schema: Schema) -> Mem<bool>
 }
 
 /// Whether a column of this type may hold the value.
-fn fits(kind: ColType, v: &Value) -> bool
+pub fn fits(kind: ColType, v: &Value) -> bool
     ensures { result ≡ is_of_type kind v.now }
 {
     match (kind, v) {
@@ -126,7 +126,8 @@ fn is_among(name: &Text, names: &[Text]) -> bool
     false
 }
 
-fn are_groups(fields: &[Field], groups: &[Text]) -> bool
+/// Whether the groups are distinct names of these columns.
+pub fn are_groups(fields: &[Field], groups: &[Text]) -> bool
     ensures { result ≡ groups_of fields.now groups.now }
 {
     match groups {

@@ -95,7 +95,13 @@ impl Verb {
             Verb::Arrange(keys) => Ok(Verb::Arrange(keys.copy()?)),
             Verb::GroupBy(columns) => Ok(Verb::GroupBy(columns.copy()?)),
             Verb::Ungroup => Ok(Verb::Ungroup),
-            Verb::Summarise { by, args, calls, results, groups } => summarise(by, args, calls, results, groups),
+            Verb::Summarise {
+                by,
+                args,
+                calls,
+                results,
+                groups,
+            } => summarise(by, args, calls, results, groups),
             Verb::Count { by, name, sort } => count(by, name, *sort),
             Verb::Distinct { by, keep_all } => distinct(by, *keep_all),
             Verb::Head(count) => Ok(Verb::Head(*count)),
@@ -104,8 +110,18 @@ impl Verb {
             Verb::SliceTail(count) => Ok(Verb::SliceTail(*count)),
             Verb::SliceMin(key, count) => Ok(Verb::SliceMin(key.copy()?, *count)),
             Verb::SliceMax(key, count) => Ok(Verb::SliceMax(key.copy()?, *count)),
-            Verb::Join { kind, pairs, na_match, names } => join(*kind, pairs, *na_match, names),
-            Verb::PivotLonger { chosen, names_to, values_to, drop_na } => pivot_longer(chosen, names_to, values_to, *drop_na),
+            Verb::Join {
+                kind,
+                pairs,
+                na_match,
+                names,
+            } => join(*kind, pairs, *na_match, names),
+            Verb::PivotLonger {
+                chosen,
+                names_to,
+                values_to,
+                drop_na,
+            } => pivot_longer(chosen, names_to, values_to, *drop_na),
             Verb::PivotWider(spec) => Ok(Verb::PivotWider(spec.copy()?)),
             Verb::Fill { columns, how } => fill(columns, *how),
             Verb::DropNa(columns) => Ok(Verb::DropNa(columns.copy()?)),
@@ -123,13 +139,19 @@ impl Duplicate for Verb {
 fn filter(by: &Seq<u32>, conditions: &Seq<Part>) -> Mem<Verb>
     ensures { IfOk result (λ made. made ≡ Filter by.now conditions.now) }
 {
-    Ok(Verb::Filter { by: by.copy()?, conditions: conditions.copy()? })
+    Ok(Verb::Filter {
+        by: by.copy()?,
+        conditions: conditions.copy()?,
+    })
 }
 
 fn mutate(by: &Seq<u32>, values: &Seq<(Text, Part)>) -> Mem<Verb>
     ensures { IfOk result (λ made. made ≡ Mutate by.now values.now) }
 {
-    Ok(Verb::Mutate { by: by.copy()?, values: values.copy()? })
+    Ok(Verb::Mutate {
+        by: by.copy()?,
+        values: values.copy()?,
+    })
 }
 
 fn summarise(
@@ -153,13 +175,20 @@ fn summarise(
 fn count(by: &Seq<u32>, name: &Text, sort: bool) -> Mem<Verb>
     ensures { IfOk result (λ made. made ≡ Count by.now name.now sort) }
 {
-    Ok(Verb::Count { by: by.copy()?, name: name.copy()?, sort })
+    Ok(Verb::Count {
+        by: by.copy()?,
+        name: name.copy()?,
+        sort,
+    })
 }
 
 fn distinct(by: &Seq<u32>, keep_all: bool) -> Mem<Verb>
     ensures { IfOk result (λ made. made ≡ Distinct by.now keep_all) }
 {
-    Ok(Verb::Distinct { by: by.copy()?, keep_all })
+    Ok(Verb::Distinct {
+        by: by.copy()?,
+        keep_all,
+    })
 }
 
 fn slice(from: u64, to: u64) -> Verb
@@ -171,7 +200,12 @@ fn slice(from: u64, to: u64) -> Verb
 fn join(kind: JoinKind, pairs: &Seq<(u32, u32)>, na_match: bool, names: &Seq<Text>) -> Mem<Verb>
     ensures { IfOk result (λ made. made ≡ Join kind pairs.now na_match names.now) }
 {
-    Ok(Verb::Join { kind, pairs: pairs.copy()?, na_match, names: names.copy()? })
+    Ok(Verb::Join {
+        kind,
+        pairs: pairs.copy()?,
+        na_match,
+        names: names.copy()?,
+    })
 }
 
 fn pivot_longer(chosen: &Seq<u32>, names_to: &Text, values_to: &Text, drop_na: bool) -> Mem<Verb>
@@ -188,5 +222,8 @@ fn pivot_longer(chosen: &Seq<u32>, names_to: &Text, values_to: &Text, drop_na: b
 fn fill(columns: &Seq<u32>, how: WindowKind) -> Mem<Verb>
     ensures { IfOk result (λ made. made ≡ Fill columns.now how) }
 {
-    Ok(Verb::Fill { columns: columns.copy()?, how })
+    Ok(Verb::Fill {
+        columns: columns.copy()?,
+        how,
+    })
 }

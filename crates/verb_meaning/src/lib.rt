@@ -9,3 +9,6 @@ mod run;
 
 pub use laws::verbs_keep_sameness;
 pub use run::run_verb;
+
+#[cfg(test)]
+mod tests;

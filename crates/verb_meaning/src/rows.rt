@@ -80,12 +80,7 @@ fn with_column(
 }
 
 /// The rows, which are moved, with one expression after the other.
-fn mutated(
-    alloc: Global,
-    values: &[(Text, Part)],
-    schema: Schema,
-    rows: Seq<Row>,
-) -> Mem<Seq<Row>>
+fn mutated(alloc: Global, values: &[(Text, Part)], schema: Schema, rows: Seq<Row>) -> Mem<Seq<Row>>
     ensures { IfOk result (λ made. made ≡ rows_with schema values.now rows) }
 {
     let (mut schema, mut rows) = (schema, rows);

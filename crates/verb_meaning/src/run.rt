@@ -18,12 +18,7 @@ use verb_forms::{PivotFault, Verb, shape_after};
 ///
 /// The verb suits the shape of `x`, as the check of a script promises; the other verbs suit none yet. The only error is
 /// want of memory.
-pub fn run_verb(
-    alloc: Global,
-    verb: &Verb,
-    x: &Table,
-    _y: Option<&Table>,
-) -> Res<Table, PivotFault>
+pub fn run_verb(alloc: Global, verb: &Verb, x: &Table, _y: Option<&Table>) -> Res<Table, PivotFault>
     requires { Suits verb.now (shape_of x.now) }
     ensures given { Gives result (Ok (meaning verb.now x.now)) }
     ensures no_fault { IfErr result (λ e. e ≡ Memory) }

@@ -15,6 +15,6 @@ invariant_of-result c =
     record {
       named = ap (λ (s : ShapeValue). names_differ s.schema) made ∙ suits.named;
       filled = ap (λ (s : ShapeValue). fit_rows s.schema c.in_ok-rows.rows) made ∙ ap (fit_rows (after c.args.verb.now shape).schema) c.in_ok-rows.ensures
-      ∙ rows-fit c.args.verb.now shape c.x.inside.rows suits.form c.x.invariant.filled;
+          ∙ rows-fit c.args.verb.now shape c.x.inside.rows suits.form c.x.invariant.filled;
       grouped = ap (λ (s : ShapeValue). are_groups s.schema s.groups) made ∙ suits.grouped;
     }
