@@ -115,80 +115,77 @@ fn zero() -> Value {
     }
 }
 
-/// Verbs on the shape grouped by `g`, whether each suits it, and whether it would write the group.
-fn verbs_of(alloc: Global) -> Mem<Seq<(Verb, bool, bool)>> {
-    let whole = one(alloc, (2, Value::Int(0)))?;
-    let decimal = one(alloc, (2, zero()))?;
-    let mut verbs = Seq::new(alloc);
-    verbs.push((
-        filter(alloc, &[1], plain(alloc, is_missing(alloc, 2)?))?,
-        true,
-        false,
-    ))?;
-    verbs.push((
-        filter(alloc, &[], plain(alloc, is_missing(alloc, 2)?))?,
-        false,
-        false,
-    ))?;
-    verbs.push((
-        filter(alloc, &[1], plain(alloc, Expr::Col(2)))?,
-        false,
-        false,
-    ))?;
-    verbs.push((filter(alloc, &[1], numbered(alloc)?)?, false, false))?;
-    verbs.push((
-        mutate(alloc, &[1], "w", is_missing(alloc, 0)?)?,
-        true,
-        false,
-    ))?;
-    verbs.push((
-        mutate(alloc, &[1], "g", is_missing(alloc, 0)?)?,
-        false,
-        true,
-    ))?;
-    verbs.push((mutate(alloc, &[1], "n", Expr::Col(3))?, false, false))?;
-    verbs.push((
-        Verb::Select(chosen(alloc, &[(1, "k"), (0, "id")])?),
-        true,
-        false,
-    ))?;
-    verbs.push((Verb::Select(chosen(alloc, &[(0, "id")])?), false, false))?;
-    verbs.push((
-        Verb::Rename(chosen(alloc, &[(0, "w"), (1, "g"), (2, "w")])?),
-        false,
-        false,
-    ))?;
-    verbs.push((
-        Verb::Relocate(chosen(alloc, &[(3, "n"), (1, "g")])?),
-        false,
-        false,
-    ))?;
-    verbs.push((Verb::GroupBy(places(&[0, 2], alloc)?), true, false))?;
-    verbs.push((Verb::GroupBy(places(&[0, 0], alloc)?), false, false))?;
-    verbs.push((Verb::Ungroup, true, false))?;
-    verbs.push((Verb::DropNa(places(&[0, 1, 2], alloc)?), true, false))?;
-    verbs.push((Verb::ReplaceNa(decimal), true, false))?;
-    verbs.push((Verb::ReplaceNa(whole), false, false))?;
-    verbs.push((
-        Verb::ReplaceNa(one(alloc, (1, Value::Missing))?),
-        false,
-        true,
-    ))?;
-    verbs.push((Verb::Head(6), false, false))?;
-    Ok(verbs)
+/// Filters and mutates on the shape grouped by `g`.
+fn part_verb(alloc: Global, at: usize) -> Mem<Verb> {
+    match at {
+        0 => filter(alloc, &[1], plain(alloc, is_missing(alloc, 2)?)),
+        1 => filter(alloc, &[], plain(alloc, is_missing(alloc, 2)?)),
+        2 => filter(alloc, &[1], plain(alloc, Expr::Col(2))),
+        3 => filter(alloc, &[1], numbered(alloc)?),
+        4 => mutate(alloc, &[1], "w", is_missing(alloc, 0)?),
+        5 => mutate(alloc, &[1], "g", is_missing(alloc, 0)?),
+        _ => mutate(alloc, &[1], "n", Expr::Col(3)),
+    }
+}
+
+/// Other verbs on that shape.
+fn column_verb(alloc: Global, at: usize) -> Mem<Verb> {
+    match at {
+        7 => Ok(Verb::Select(chosen(alloc, &[(1, "k"), (0, "id")])?)),
+        8 => Ok(Verb::Select(chosen(alloc, &[(0, "id")])?)),
+        9 => Ok(Verb::Rename(chosen(alloc, &[(0, "w"), (1, "g"), (2, "w")])?)),
+        10 => Ok(Verb::Relocate(chosen(alloc, &[(3, "n"), (1, "g")])?)),
+        11 => Ok(Verb::GroupBy(places(&[0, 2], alloc)?)),
+        12 => Ok(Verb::GroupBy(places(&[0, 0], alloc)?)),
+        13 => Ok(Verb::Ungroup),
+        14 => Ok(Verb::DropNa(places(&[0, 1, 2], alloc)?)),
+        15 => Ok(Verb::ReplaceNa(one(alloc, (2, zero()))?)),
+        16 => Ok(Verb::ReplaceNa(one(alloc, (2, Value::Int(0)))?)),
+        17 => Ok(Verb::ReplaceNa(one(alloc, (1, Value::Missing))?)),
+        _ => Ok(Verb::Head(6)),
+    }
+}
+
+/// Whether each of these verbs suits the shape, and whether it would write its group.
+const CASES: [(bool, bool); 19] = [
+    (true, false),
+    (false, false),
+    (false, false),
+    (false, false),
+    (true, false),
+    (false, true),
+    (false, false),
+    (true, false),
+    (false, false),
+    (false, false),
+    (false, false),
+    (true, false),
+    (false, false),
+    (true, false),
+    (true, false),
+    (true, false),
+    (false, false),
+    (false, true),
+    (false, false),
+];
+
+fn verb_at(alloc: Global, at: usize) -> Mem<Verb> {
+    if at < 7 {
+        part_verb(alloc, at)
+    } else {
+        column_verb(alloc, at)
+    }
 }
 
 #[test]
 fn verbs_suit_a_shape_or_do_not(rt: HostRuntime) -> Result<(), Fail> {
     let alloc = rt.alloc();
     if let Some(shape) = shape_of(alloc, true)? {
-        for (at, case) in verbs_of(alloc)?.as_slice().iter().enumerate() {
+        for (at, case) in CASES.iter().enumerate() {
+            let verb = verb_at(alloc, at)?.copy()?;
+            assert!(rt; suits(alloc, &verb, &shape)? == case.0, "suits at {at}");
             assert!(rt;
-                suits(alloc, &case.0.copy()?, &shape)? == case.1,
-                "suits at {at}"
-            );
-            assert!(rt;
-                writes_group(alloc, &case.0, &shape)? == case.2,
+                writes_group(alloc, &verb, &shape)? == case.1,
                 "writes at {at}"
             );
         }
@@ -198,11 +195,21 @@ fn verbs_suit_a_shape_or_do_not(rt: HostRuntime) -> Result<(), Fail> {
     Ok(())
 }
 
-fn expect_names<R: Abort>(rt: &R, found: &Seq<Text>, wanted: &[&str]) {
-    assert_eq!(rt; found.len(), wanted.len());
-    for (name, word) in found.as_slice().iter().zip(wanted) {
-        assert_eq!(rt; name.as_str(), *word);
+/// A verb of those above, and the columns and groups after it.
+const AFTER: [(usize, &str, &str); 5] = [
+    (4, "id g w", "g"),
+    (6, "id g w n", "g"),
+    (7, "k id", "k"),
+    (11, "id g w", "id w"),
+    (13, "id g w", ""),
+];
+
+fn joined<R: Abort>(rt: &R, found: &[Text], wanted: &str) {
+    let mut words = wanted.split_whitespace();
+    for name in found {
+        assert!(rt; words.next() == Some(name.as_str()), "another name");
     }
+    assert!(rt; words.next() == None, "a name more");
 }
 
 #[test]
@@ -210,120 +217,133 @@ fn columns_and_groups_after_a_verb(rt: HostRuntime) -> Result<(), Fail> {
     let alloc = rt.alloc();
     let groups = one(alloc, text(alloc, "g")?)?;
     let schema = schema_of(alloc)?;
-    let cases = [
-        (
-            mutate(alloc, &[1], "id", is_missing(alloc, 2)?)?,
-            ["id", "g", "w"].as_slice(),
-            ["g"].as_slice(),
-        ),
-        (
-            mutate(alloc, &[1], "n", is_missing(alloc, 2)?)?,
-            ["id", "g", "w", "n"].as_slice(),
-            ["g"].as_slice(),
-        ),
-        (
-            Verb::Select(chosen(alloc, &[(1, "k"), (2, "w")])?),
-            ["k", "w"].as_slice(),
-            ["k"].as_slice(),
-        ),
-        (
-            Verb::GroupBy(places(&[2, 0], alloc)?),
-            ["id", "g", "w"].as_slice(),
-            ["w", "id"].as_slice(),
-        ),
-        (Verb::Ungroup, ["id", "g", "w"].as_slice(), [].as_slice()),
-    ];
-    for (verb, columns, names) in cases {
-        let made = shape_after(alloc, &verb, &schema, &groups, Mark::Unordered)?;
-        assert_eq!(rt; made.0.len(), columns.len());
-        for (field, word) in made.0.as_slice().iter().zip(columns) {
-            assert_eq!(rt; field.name.as_str(), *word);
+    for (at, columns, names) in AFTER {
+        let made = shape_after(
+            alloc,
+            &verb_at(alloc, at)?,
+            &schema,
+            &groups,
+            Mark::Unordered,
+        )?;
+        let mut found = Seq::new(alloc);
+        for field in made.0.as_slice() {
+            found.push(field.name.copy()?)?;
         }
-        expect_names(&rt, &made.1, names);
+        joined(&rt, found.as_slice(), columns);
+        joined(&rt, made.1.as_slice(), names);
         assert!(rt; made.2 == Mark::Unordered);
     }
-    let w = text(alloc, "w")?;
+    Ok(())
+}
+
+#[test]
+fn a_column_is_put_in_place(rt: HostRuntime) -> Result<(), Fail> {
+    let alloc = rt.alloc();
+    let (schema, w) = (schema_of(alloc)?, text(alloc, "w")?);
     assert!(rt; has_name(&w, schema.as_slice()) && place_of(&w, &schema) == Some(2));
     let made = with_column(&w, ColType::Lgl, schema)?;
     assert!(rt; made.len() == 3 && made.as_slice().iter().all(|f| f.kind != ColType::Dec));
     Ok(())
 }
 
-/// A verb of each kind that no other test copies.
-fn other_verbs(alloc: Global) -> Mem<Seq<Verb>> {
+fn summarise(alloc: Global) -> Mem<Verb> {
     let call = AggCall {
         kind: AggKind::Sum,
         arg: 0,
         arg_type: ColType::Int,
         na_rm: false,
     };
-    let mut verbs = Seq::new(alloc);
-    verbs.push(Verb::Arrange(one(alloc, (Expr::Col(0), true))?))?;
-    verbs.push(Verb::Summarise {
+    Ok(Verb::Summarise {
         by: places(&[1], alloc)?,
         args: one(alloc, Expr::Col(0))?,
         calls: one(alloc, call)?,
         results: one(alloc, (text(alloc, "s")?, Expr::Col(0)))?,
         groups: Seq::new(alloc),
-    })?;
-    verbs.push(Verb::Count {
-        by: places(&[1], alloc)?,
-        name: text(alloc, "n")?,
-        sort: true,
-    })?;
-    verbs.push(Verb::Distinct {
-        by: places(&[1], alloc)?,
-        keep_all: false,
-    })?;
-    verbs.push(Verb::Slice { from: 2, to: 3 })?;
-    verbs.push(Verb::SliceHead(1))?;
-    verbs.push(Verb::SliceTail(1))?;
-    verbs.push(Verb::SliceMin(Expr::Col(0), 1))?;
-    verbs.push(Verb::SliceMax(Expr::Col(0), 1))?;
-    verbs.push(Verb::Join {
+    })
+}
+
+fn join(alloc: Global) -> Mem<Verb> {
+    Ok(Verb::Join {
         kind: JoinKind::Left,
         pairs: one(alloc, (0, 0))?,
         na_match: true,
         names: one(alloc, text(alloc, "id")?)?,
-    })?;
-    verbs.push(Verb::PivotLonger {
+    })
+}
+
+fn longer(alloc: Global) -> Mem<Verb> {
+    Ok(Verb::PivotLonger {
         chosen: places(&[0], alloc)?,
         names_to: text(alloc, "name")?,
         values_to: text(alloc, "value")?,
         drop_na: true,
-    })?;
-    verbs.push(Verb::PivotWider(PivotSpec {
+    })
+}
+
+fn wider(alloc: Global) -> Mem<PivotSpec> {
+    Ok(PivotSpec {
         ids: places(&[0], alloc)?,
         names: 1,
         values: 2,
         sorted: false,
         fill: Value::Missing,
-    }))?;
-    verbs.push(Verb::Fill {
-        columns: places(&[0], alloc)?,
-        how: WindowKind::FillUp,
-    })?;
-    Ok(verbs)
+    })
+}
+
+fn count(alloc: Global) -> Mem<Verb> {
+    Ok(Verb::Count {
+        by: places(&[1], alloc)?,
+        name: text(alloc, "n")?,
+        sort: true,
+    })
+}
+
+/// A verb of each kind that no other test copies.
+fn other_verb(alloc: Global, at: usize) -> Mem<Verb> {
+    match at {
+        0 => Ok(Verb::Arrange(one(alloc, (Expr::Col(0), true))?)),
+        1 => summarise(alloc),
+        2 => count(alloc),
+        3 => Ok(Verb::Distinct {
+            by: places(&[1], alloc)?,
+            keep_all: false,
+        }),
+        4 => Ok(Verb::Slice { from: 2, to: 3 }),
+        5 => Ok(Verb::SliceHead(1)),
+        6 => Ok(Verb::SliceTail(1)),
+        7 => Ok(Verb::SliceMin(Expr::Col(0), 1)),
+        8 => Ok(Verb::SliceMax(Expr::Col(0), 1)),
+        9 => join(alloc),
+        10 => longer(alloc),
+        11 => Ok(Verb::PivotWider(wider(alloc)?)),
+        _ => Ok(Verb::Fill {
+            columns: places(&[0], alloc)?,
+            how: WindowKind::FillUp,
+        }),
+    }
+}
+
+fn fault_at(alloc: Global, at: usize) -> Mem<PivotFault> {
+    match at {
+        0 => Ok(PivotFault::TooManyNames),
+        1 => Ok(PivotFault::NameTaken(text(alloc, "n")?)),
+        _ => Ok(PivotFault::CellTwice(one(alloc, Value::Int(1))?, Value::Missing)),
+    }
 }
 
 #[test]
 fn verbs_and_faults_are_copied(rt: HostRuntime) -> Result<(), Fail> {
     let alloc = rt.alloc();
-    let verbs = other_verbs(alloc)?;
-    assert_eq!(rt; verbs.copy()?.len(), 13);
-    let faults = [
-        PivotFault::TooManyNames,
-        PivotFault::NameTaken(text(alloc, "n")?),
-        PivotFault::CellTwice(one(alloc, Value::Int(1))?, Value::Missing),
-    ];
-    for fault in faults {
-        match fault.copy()? {
-            PivotFault::TooManyNames => {}
-            PivotFault::NameTaken(name) => assert_eq!(rt; name.as_str(), "n"),
-            PivotFault::CellTwice(key, name) => {
-                assert!(rt; key.len() == 1 && name == Value::Missing)
-            }
-        }
+    for at in 0..13 {
+        let made = other_verb(alloc, at)?.copy()?;
+        assert!(rt; matches!(made, Verb::Join { .. }) == (at == 9), "verb {at}");
+    }
+    for at in 0..3 {
+        let made = fault_at(alloc, at)?.copy()?;
+        assert!(rt;
+            matches!(made, PivotFault::TooManyNames) == (at == 0),
+            "fault {at}"
+        );
     }
     Ok(())
 }

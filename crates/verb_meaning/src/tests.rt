@@ -206,52 +206,82 @@ fn give(alloc: Global, values: &mut Seq<(Text, Part)>, name: &str, value: Expr) 
 
 const T: &str = "id:int,g:chr,x:int 1,a,10 2,b,NA 3,a,30 4,NA,5";
 
-#[test]
-fn filter_keeps_rows_on_which_conditions_are_true(rt: HostRuntime) -> Result<(), Fail> {
-    let alloc = rt.alloc();
-    let large = || two(alloc, ExprFn::Gt, Expr::Col(2), int(5));
-    let row_1 = "id:int,g:chr,x:int 1,a,10 3,a,30";
+/// Whether x is greater than a number.
+fn above(alloc: Global, number: i64) -> Mem<Expr> {
+    two(alloc, ExprFn::Gt, Expr::Col(2), int(number))
+}
+
+fn is_missing(alloc: Global) -> Mem<Expr> {
+    one(alloc, ExprFn::IsNa, Expr::Col(2))
+}
+
+/// `!(x %in% c(10, NA))`.
+fn is_other(alloc: Global) -> Mem<Expr> {
     let mut args = Seq::new(alloc);
     args.push(Expr::Col(2))?;
     args.push(int(10))?;
     args.push(missing(ColType::Int))?;
-    let other = one(alloc, ExprFn::Not, Expr::Call(ExprFn::IsIn, args))?;
-    let missing_too = two(alloc, ExprFn::Or, missing(ColType::Lgl), large()?)?;
-    let never = two(
-        alloc,
-        ExprFn::And,
-        one(alloc, ExprFn::IsNa, Expr::Col(2))?,
-        missing(ColType::Lgl),
-    )?;
-    let greatest = two(alloc, ExprFn::Gt, Expr::Col(2), int(100))?;
-    let small = two(alloc, ExprFn::Lt, Expr::Col(0), int(3))?;
-    let cases = [
-        ([Some(large()?), None], row_1),
-        ([Some(other), None], "id:int,g:chr,x:int 3,a,30 4,NA,5"),
-        ([Some(greatest), None], "id:int,g:chr,x:int"),
-        ([Some(missing_too), None], row_1),
-        ([Some(never), None], "id:int,g:chr,x:int"),
-        ([None, None], T),
-        ([Some(large()?), Some(small)], "id:int,g:chr,x:int 1,a,10"),
-    ];
-    for (conditions, wanted) in cases {
-        expect(
-            &rt,
+    one(alloc, ExprFn::Not, Expr::Call(ExprFn::IsIn, args))
+}
+
+fn filter_at(alloc: Global, at: usize) -> Mem<Verb> {
+    match at {
+        0 => filter(alloc, [Some(above(alloc, 5)?), None]),
+        1 => filter(alloc, [Some(is_other(alloc)?), None]),
+        2 => filter(alloc, [Some(above(alloc, 100)?), None]),
+        3 => {
+            let or = two(alloc, ExprFn::Or, missing(ColType::Lgl), above(alloc, 5)?)?;
+            filter(alloc, [Some(or), None])
+        }
+        4 => {
+            let and = two(
+                alloc,
+                ExprFn::And,
+                is_missing(alloc)?,
+                missing(ColType::Lgl),
+            )?;
+            filter(alloc, [Some(and), None])
+        }
+        5 => filter(alloc, [None, None]),
+        _ => filter(
             alloc,
-            (T, ""),
-            filter(alloc, conditions)?,
-            (wanted, ""),
-        )?;
+            [
+                Some(above(alloc, 5)?),
+                Some(two(alloc, ExprFn::Lt, Expr::Col(0), int(3))?),
+            ],
+        ),
+    }
+}
+
+/// What each of these filters keeps.
+const KEPT: [&str; 7] = [
+    "id:int,g:chr,x:int 1,a,10 3,a,30",
+    "id:int,g:chr,x:int 3,a,30 4,NA,5",
+    "id:int,g:chr,x:int",
+    "id:int,g:chr,x:int 1,a,10 3,a,30",
+    "id:int,g:chr,x:int",
+    T,
+    "id:int,g:chr,x:int 1,a,10",
+];
+
+#[test]
+fn filter_keeps_rows_on_which_conditions_are_true(rt: HostRuntime) -> Result<(), Fail> {
+    let alloc = rt.alloc();
+    for (at, wanted) in KEPT.iter().enumerate() {
+        expect(&rt, alloc, (T, ""), filter_at(alloc, at)?, (*wanted, ""))?;
     }
     Ok(())
 }
 
-#[test]
-fn mutate_gives_one_value_after_the_other(rt: HostRuntime) -> Result<(), Fail> {
-    let alloc = rt.alloc();
-    let given = "id:int,x:int 1,10 2,NA 3,30 4,5";
-    let between = "id:int,x:int,a:int 1,10,2 2,NA,2 3,30,2 4,5,2";
-    let wanted = "a:int,id:int,x:int 2,1,10 2,2,NA 2,3,30 2,4,5";
+fn mutate(alloc: Global, values: Seq<(Text, Part)>) -> Verb {
+    Verb::Mutate {
+        by: Seq::new(alloc),
+        values,
+    }
+}
+
+/// `mutate(a = 1, a = a + 1)` behind two columns.
+fn added_twice(alloc: Global) -> Mem<Verb> {
     let mut values = Seq::new(alloc);
     give(alloc, &mut values, "a", int(1))?;
     give(
@@ -260,12 +290,17 @@ fn mutate_gives_one_value_after_the_other(rt: HostRuntime) -> Result<(), Fail> {
         "a",
         two(alloc, ExprFn::Add, Expr::Col(2), int(1))?,
     )?;
-    let verb = Verb::Mutate {
-        by: Seq::new(alloc),
-        values,
-    };
-    expect(&rt, alloc, (given, ""), verb, (between, ""))?;
+    Ok(mutate(alloc, values))
+}
+
+#[test]
+fn a_value_sees_the_ones_before_it(rt: HostRuntime) -> Result<(), Fail> {
+    let alloc = rt.alloc();
+    let given = "id:int,x:int 1,10 2,NA 3,30 4,5";
+    let between = "id:int,x:int,a:int 1,10,2 2,NA,2 3,30,2 4,5,2";
+    expect(&rt, alloc, (given, ""), added_twice(alloc)?, (between, ""))?;
     let moved = columns(alloc, &[(2, "a"), (0, "id"), (1, "x")])?;
+    let wanted = "a:int,id:int,x:int 2,1,10 2,2,NA 2,3,30 2,4,5";
     expect(
         &rt,
         alloc,
@@ -273,46 +308,45 @@ fn mutate_gives_one_value_after_the_other(rt: HostRuntime) -> Result<(), Fail> {
         Verb::Relocate(moved),
         (wanted, ""),
     )?;
+    Ok(())
+}
 
+/// 7 %/% -2, 7 %% -2, x %% 0, 1 / 3 and 2 / 3.
+fn quotient(alloc: Global, at: usize) -> Mem<Expr> {
+    match at {
+        0 => two(
+            alloc,
+            ExprFn::FloorDiv,
+            int(7),
+            one(alloc, ExprFn::Neg, int(2))?,
+        ),
+        1 => two(alloc, ExprFn::Mod, int(7), int(-2)),
+        2 => two(alloc, ExprFn::Mod, Expr::Col(0), int(0)),
+        3 => two(alloc, ExprFn::Div, int(1), int(3)),
+        _ => two(alloc, ExprFn::Div, int(2), int(3)),
+    }
+}
+
+#[test]
+fn mutate_gives_values_in_order(rt: HostRuntime) -> Result<(), Fail> {
+    let alloc = rt.alloc();
     let mut values = Seq::new(alloc);
-    let minus = || one(alloc, ExprFn::Neg, int(2));
-    give(
-        alloc,
-        &mut values,
-        "a",
-        two(alloc, ExprFn::FloorDiv, int(7), minus()?)?,
-    )?;
-    give(
-        alloc,
-        &mut values,
-        "b",
-        two(alloc, ExprFn::Mod, int(7), minus()?)?,
-    )?;
-    give(
-        alloc,
-        &mut values,
-        "c",
-        two(alloc, ExprFn::Mod, Expr::Col(0), int(0))?,
-    )?;
-    give(
-        alloc,
-        &mut values,
-        "d",
-        two(alloc, ExprFn::Div, int(1), int(3))?,
-    )?;
-    give(
-        alloc,
-        &mut values,
-        "e",
-        two(alloc, ExprFn::Div, int(2), int(3))?,
-    )?;
-    let verb = Verb::Mutate {
-        by: Seq::new(alloc),
-        values,
-    };
+    for (at, name) in ["a", "b", "c", "d", "e"].iter().enumerate() {
+        give(alloc, &mut values, name, quotient(alloc, at)?)?;
+    }
     let wanted = "x:int,a:int,b:int,c:int,d:dec,e:dec 5,-4,-1,NA,0.333333,0.666667";
-    expect(&rt, alloc, ("x:int 5", ""), verb, (wanted, ""))?;
+    expect(
+        &rt,
+        alloc,
+        ("x:int 5", ""),
+        mutate(alloc, values),
+        (wanted, ""),
+    )?;
+    Ok(())
+}
 
+/// A mutate by `g` that gives id another type.
+fn retyped(alloc: Global) -> Mem<Verb> {
     let mut values = Seq::new(alloc);
     give(
         alloc,
@@ -322,86 +356,72 @@ fn mutate_gives_one_value_after_the_other(rt: HostRuntime) -> Result<(), Fail> {
     )?;
     let mut by = Seq::new(alloc);
     by.push(1)?;
-    let verb = Verb::Mutate { by, values };
-    let wanted = "id:dec,g:chr,x:int 1,a,10 2,b,NA 3,a,30 4,NA,5";
-    expect(&rt, alloc, (T, "g"), verb, (wanted, "g"))?;
-    Ok(())
+    Ok(Verb::Mutate { by, values })
 }
 
-#[test]
-fn columns_are_chosen_with_their_groups(rt: HostRuntime) -> Result<(), Fail> {
-    let alloc = rt.alloc();
-    let two_rows = "id:int,g:chr,x:int 1,a,10 2,b,NA";
-    let chosen = columns(alloc, &[(1, "k"), (2, "x")])?;
-    expect(
-        &rt,
-        alloc,
-        (two_rows, "g"),
-        Verb::Select(chosen),
-        ("k:chr,x:int a,10 b,NA", "k"),
-    )?;
-    let renamed = columns(alloc, &[(0, "id"), (1, "x"), (2, "g")])?;
-    let wanted = "id:int,x:chr,g:int 1,a,10 2,b,NA";
-    expect(
-        &rt,
-        alloc,
-        (two_rows, "g x"),
-        Verb::Rename(renamed),
-        (wanted, "x g"),
-    )?;
-    let mut groups = Seq::new(alloc);
-    groups.push(2)?;
-    expect(
-        &rt,
-        alloc,
-        (two_rows, "g"),
-        Verb::GroupBy(groups),
-        (two_rows, "x"),
-    )?;
-    expect(&rt, alloc, (two_rows, "g x"), Verb::Ungroup, (two_rows, ""))?;
-    Ok(())
+fn places(alloc: Global, columns: &[u32]) -> Mem<Seq<u32>> {
+    Seq::of_slice(alloc, columns)
 }
 
-#[test]
-fn missing_values_are_dropped_and_replaced(rt: HostRuntime) -> Result<(), Fail> {
-    let alloc = rt.alloc();
-    let mut named = Seq::new(alloc);
-    named.push(2)?;
-    let wanted = "id:int,g:chr,x:int 1,a,10 3,a,30 4,NA,5";
-    expect(&rt, alloc, (T, ""), Verb::DropNa(named), (wanted, ""))?;
-    let mut all = Seq::new(alloc);
-    all.push(0)?;
-    all.push(1)?;
-    all.push(2)?;
-    let wanted = "id:int,g:chr,x:int 1,a,10 3,a,30";
-    expect(&rt, alloc, (T, "g"), Verb::DropNa(all), (wanted, "g"))?;
-    let given = "w:dec,g:chr 1.5,a NA,NA NA,b";
+fn cells(alloc: Global) -> Mem<Verb> {
     let mut cells = Seq::new(alloc);
     cells.push((0, value_of(alloc, ColType::Dec, "7")?))?;
     cells.push((0, value_of(alloc, ColType::Dec, "8")?))?;
     cells.push((1, Value::Missing))?;
-    let wanted = "w:dec,g:chr 1.5,a 7,NA 7,b";
-    expect(
-        &rt,
-        alloc,
-        (given, ""),
-        Verb::ReplaceNa(cells),
-        (wanted, ""),
-    )?;
-    Ok(())
+    Ok(Verb::ReplaceNa(cells))
 }
 
+fn verb_at(alloc: Global, at: usize) -> Mem<Verb> {
+    match at {
+        0 => retyped(alloc),
+        1 => Ok(Verb::Select(columns(alloc, &[(1, "k"), (2, "x")])?)),
+        2 => Ok(Verb::Rename(columns(alloc, &[(0, "id"), (1, "x"), (2, "g")])?)),
+        3 => Ok(Verb::GroupBy(places(alloc, &[2])?)),
+        4 => Ok(Verb::Ungroup),
+        5 => Ok(Verb::DropNa(places(alloc, &[2])?)),
+        6 => Ok(Verb::DropNa(places(alloc, &[0, 1, 2])?)),
+        _ => cells(alloc),
+    }
+}
+
+/// A table with its groups, and the table and groups that each of these verbs gives.
+const VERBS: [(&str, &str, &str, &str); 8] = [
+    (
+        T,
+        "g",
+        "id:dec,g:chr,x:int 1,a,10 2,b,NA 3,a,30 4,NA,5",
+        "g",
+    ),
+    (T, "g", "k:chr,x:int a,10 b,NA a,30 NA,5", "k"),
+    (
+        T,
+        "g x",
+        "id:int,x:chr,g:int 1,a,10 2,b,NA 3,a,30 4,NA,5",
+        "x g",
+    ),
+    (T, "g", T, "x"),
+    (T, "g x", T, ""),
+    (T, "g", "id:int,g:chr,x:int 1,a,10 3,a,30 4,NA,5", "g"),
+    (T, "", "id:int,g:chr,x:int 1,a,10 3,a,30", ""),
+    (
+        "w:dec,g:chr 1.5,a NA,NA NA,b",
+        "",
+        "w:dec,g:chr 1.5,a 7,NA 7,b",
+        "",
+    ),
+];
+
 #[test]
-fn the_order_of_rows_that_is_not_kept_stays_so(rt: HostRuntime) -> Result<(), Fail> {
+fn each_verb_gives_its_table(rt: HostRuntime) -> Result<(), Fail> {
     let alloc = rt.alloc();
-    if let Some(mut x) = table_of(alloc, T, "")? {
-        x.mark = Mark::Unordered;
-        match after(alloc, &x, &Verb::Ungroup)? {
-            Some(made) => assert!(rt; are_equal(&made, &x), "another table"),
-            None => assert!(rt; false, "no table"),
-        }
-    } else {
-        assert!(rt; false, "no table");
+    for (at, case) in VERBS.iter().enumerate() {
+        expect(
+            &rt,
+            alloc,
+            (case.0, case.1),
+            verb_at(alloc, at)?,
+            (case.2, case.3),
+        )?;
     }
     Ok(())
 }
