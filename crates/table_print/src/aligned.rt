@@ -3,7 +3,7 @@ ghost use Rattle.std.specs.Prelude.{◌≡◌, ◌++◌, ◌∷◌, [], ◌==◌
 ghost use Rattle.std.specs.List.{flat_map, list_any};
 ghost use Rattle.csv.specs.Records.{fields_of};
 ghost use Rattle.table_print.specs.Cells.{name_of, shown_type, written_row};
-ghost use Rattle.table_print.specs.Aligned.{is_hidden as hides, shown, spaces, padded, gap_at, cells_from, line_text, size_line, comma_at, names_from, groups_line, columns_of as all_columns, aligned_text};
+ghost use Rattle.table_print.specs.Aligned.{is_hidden as hides, shown_byte, shown, spaces, padded, gap_at, cells_from, line_text, size_line, comma_at, names_from, groups_line, columns_of as all_columns, aligned_text};
 
 use crate::cells::{fill_names, fill_types, fill_values};
 use crate::column::{Column, columns_of};
@@ -18,13 +18,20 @@ use std::alloc::Global;
 fn push_spaces(out: &mut String, count: u64) -> Mem<()>
     ensures { OnOk result (string_bytes out.new ≡ string_bytes out.old ++ spaces count) }
 {
-    for _ in 0..count {
+    for _done in 0..count {
         out.push(' ')?;
     }
     Ok(())
 }
 
-/// Whether a byte, or an ASCII character, is shown as a question mark.
+/// The character as it is shown: `?` below U+0020, and for U+007F.
+fn shown_char(c: char) -> char
+    ensures { result ≡ shown_byte c }
+{
+    if c < ' ' || c == '\u{7f}' { '?' } else { c }
+}
+
+/// Whether a byte is shown as a question mark.
 fn is_hidden(byte: u8) -> bool
     ensures { result ≡ hides byte }
 {
@@ -46,8 +53,7 @@ fn push_shown(out: &mut String, text: &str) -> Mem<()>
         return Ok(());
     }
     for c in text.chars() {
-        let hidden = c < ' ' || c == '\u{7f}';
-        out.push(if hidden { '?' } else { c })?;
+        out.push(shown_char(c))?;
     }
     Ok(())
 }

@@ -16,10 +16,10 @@ use std::alloc::Global;
 fn put_line(writer: &mut Writer<Vec<u8>>, line: &StringRecord) -> Mem<()>
     ensures { OnOk result ((text : List ℕ) → HasWritten writer.old text → HasWritten writer.new (text ++ csv_line (fields_of line.now))) }
 {
-    match writer.write_byte_record(line.as_byte_record()) {
-        Ok(()) => Ok(()),
-        Err(_) => Err(NoMemory),
+    if writer.write_byte_record(line.as_byte_record()).is_err() {
+        return Err(NoMemory);
     }
+    Ok(())
 }
 
 /// Writes a line for each row.
