@@ -6,10 +6,10 @@ use Rattle.std.specs.Prelude.{max}
 use Rattle.scalar_fns.specs.Texts.{char_count}
 use Rattle.scalar_value.specs.declared.value.Value.{Value}
 use Rattle.row_table.specs.declared.field.Field.{Field}
-use Rattle.row_table.specs.Tables.{fit_rows, fits_row}
+use Rattle.row_table.specs.Tables.{TableValue, fit_rows, fits_row}
 use Rattle.table_print.specs.declared.column.Column.{Column}
 use Rattle.table_print.specs.Cells.{written_row, name_of, shown_type}
-use Rattle.table_print.specs.Aligned.{greatest, stands_right, width_at, columns_from}
+use Rattle.table_print.specs.Aligned.{greatest, stands_right, width_at, columns_from, cell_lines, columns_of}
 use Rattle.table_print.specs.Widths.{narrow, widened, widened_by}
 use Rattle.table_print.proofs.Values.{left-true, right-true, row-length}
 
@@ -86,11 +86,10 @@ rows-have fields (row ∷ rows) e =
     let a = row-length fields row (left-true (fits_row fields row) (fit_rows fields rows) e) in
     (length-map row written ∙ a, rows-have fields rows (right-true (fits_row fields row) (fit_rows fields rows) e))
 
-pub columns-law : (fields : List Field) (rows : List (List Value)) → fit_rows fields rows ≡ true
-    → widened_by (widened (widened (map narrow fields) (map name_of fields)) (map shown_type fields)) (map written_row rows) ≡ columns_from 0 fields (map name_of fields ∷ map shown_type fields ∷ map written_row rows)
-columns-law fields rows e =
-    ap (λ cs. widened_by cs (map name_of fields ∷ map shown_type fields ∷ map written_row rows)) (narrow-first 0 fields)
-    ∙ by-lines fields [] (map name_of fields ∷ map shown_type fields ∷ map written_row rows) (length-map fields name_of, length-map fields shown_type, rows-have fields rows e)
+pub columns-law : (t : TableValue) → fit_rows t.schema t.rows ≡ true → widened_by (map narrow t.schema) (cell_lines t) ≡ columns_of t
+columns-law t e =
+    ap (λ cs. widened_by cs (cell_lines t)) (narrow-first 0 t.schema)
+    ∙ by-lines t.schema [] (cell_lines t) (length-map t.schema name_of, (length-map t.schema shown_type, rows-have t.schema t.rows e))
 
 pub length-columns : (p : ℕ) (fields : List Field) (lines : List (List (List ℕ))) → length (columns_from p fields lines) ≡ length fields
 length-columns p [] lines = refl

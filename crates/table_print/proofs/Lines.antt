@@ -1,5 +1,5 @@
 -- One more line, cell or name.
-use Rattle.std.proofs.Common.{◌≡◌, ℕ, zero, suc, ◌+◌, ◌<◌, ◌++◌, List, [], ◌∷◌, length, get_or, map, take, drop, Option, Some, None, refl, sym, ◌∙◌, ap, arith, add-one, append_assoc, drop-cons}
+use Rattle.std.proofs.Common.{◌≡◌, ℕ, zero, suc, ◌+◌, ◌<◌, ◌++◌, List, [], ◌∷◌, length, get_or, map, take, drop, Option, Some, None, refl, sym, ◌∙◌, ap, ap₂, arith, add-one, append_assoc, drop-cons}
 use Rattle.std.specs.Prelude.{IsUtf8, Vec}
 use Rattle.std.specs.List.{flat_map}
 use Rattle.std.specs.Io.KnownBytes.{Appends}
@@ -33,7 +33,20 @@ pub names-next : (k : ℕ) (names : List (List ℕ)) → k < length names
     → names_from k (drop k names) ≡ comma_at k ++ get_or names k [] ++ names_from (k + 1) (drop (k + 1) names)
 names-next k names l = rw (drop-cons names k [] l, add-one k) refl
 
--- known bytes that grow
-pub grown : (new : Option (List ℕ)) (text more : List ℕ) → Appends (Some text) new more → new ≡ Some (text ++ more)
-grown None text more a = absurd a
-grown (Some xs) text more a = ap Some a
+pub some-same : (x y : List ℕ) → Some x ≡ Some y → x ≡ y
+some-same x y e = cc
+
+-- known bytes that grow by a line
+pub grown : (before after text row line : List ℕ) → after ≡ before ++ row → Some before ≡ Some text → row ≡ line → Some after ≡ Some (text ++ line)
+grown before after text row line e held same = ap Some (e ∙ ap₂ (λ (a b : List ℕ). a ++ b) (some-same before text held) same)
+
+-- one more cell, behind its gap
+pub line-step : (k : ℕ) (columns : List Column) (texts : List (List ℕ)) (d : Column) (text before mid after total : List ℕ) → k < length columns → length columns ≡ length texts
+    → text ≡ get_or texts k [] → before ++ cells_from k (drop k columns) (drop k texts) ≡ total → mid ≡ before ++ gap_at k → after ≡ mid ++ padded (get_or columns k d) text
+    → after ++ cells_from (k + 1) (drop (k + 1) columns) (drop (k + 1) texts) ≡ total
+line-step k columns texts d text before mid after total l same at held m a =
+    let cell = padded (get_or columns k d) (get_or texts k []) in
+    let rest = cells_from (k + 1) (drop (k + 1) columns) (drop (k + 1) texts) in
+    let whole : after ≡ (before ++ gap_at k) ++ cell = a ∙ ap (λ t. mid ++ padded (get_or columns k d) t) at ∙ ap (λ t. t ++ cell) m in
+    ap (λ t. t ++ rest) whole ∙ ap (λ t. t ++ rest) (append_assoc before (gap_at k) cell) ∙ append_assoc before (gap_at k ++ cell) rest
+    ∙ ap (λ t. before ++ t) (sym (cells-next k columns texts d l same)) ∙ held

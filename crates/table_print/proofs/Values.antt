@@ -1,5 +1,5 @@
 -- The rows of a table have values that can be written, one for each column.
-use Rattle.std.proofs.Common.{◌≡◌, ℕ, zero, suc, ◌<◌, Bool, true, false, List, [], ◌∷◌, length, get_or, refl, ap, arith}
+use Rattle.std.proofs.Common.{◌≡◌, ℕ, zero, suc, ◌<◌, Bool, true, false, List, [], ◌∷◌, length, get_or, refl, sym, ◌∙◌, ap, subst, arith}
 use Rattle.std.specs.Prelude.{◌&&◌}
 use Rattle.std.specs.List.{list_all}
 use Rattle.scalar_value.specs.declared.value.Value.{Value}
@@ -51,3 +51,12 @@ pub row-at : (fields : List Field) (rows : List (List Value)) (i : ℕ) (d : Lis
 row-at fields [] i d e l = absurd (omega arith)
 row-at fields (row ∷ rows) zero d e l = left-true (fits_row fields row) (fit_rows fields rows) e
 row-at fields (row ∷ rows) (suc i) d e l = row-at fields rows i d (right-true (fits_row fields row) (fit_rows fields rows) e) (omega arith)
+
+-- the row at a place of a table's rows
+pub item-values : (fields : List Field) (rows : List (List Value)) (i : ℕ) (item row : List Value) → fit_rows fields rows ≡ true → i < length rows → item ≡ get_or rows i item → row ≡ item → list_all is_value row ≡ true
+item-values fields rows i item row e l at is =
+    subst (λ (r : List Value). list_all is_value r ≡ true) (sym (is ∙ at)) (row-values fields (get_or rows i item) (row-at fields rows i item e l))
+
+pub item-length : (fields : List Field) (rows : List (List Value)) (i : ℕ) (item row : List Value) → fit_rows fields rows ≡ true → i < length rows → item ≡ get_or rows i item → row ≡ item → length row ≡ length fields
+item-length fields rows i item row e l at is =
+    subst (λ (r : List Value). length r ≡ length fields) (sym (is ∙ at)) (row-length fields (get_or rows i item) (row-at fields rows i item e l))

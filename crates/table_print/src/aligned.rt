@@ -2,10 +2,10 @@
 ghost use Rattle.std.specs.Prelude.{◌≡◌, ◌++◌, ◌∷◌, [], ◌==◌, length, map, decimal, IfOk, OnOk, string_bytes};
 ghost use Rattle.std.specs.List.{flat_map, list_any};
 ghost use Rattle.csv.specs.Records.{fields_of};
-ghost use Rattle.table_print.specs.Cells.{name_of, shown_type, written_row};
-ghost use Rattle.table_print.specs.Aligned.{is_hidden as hides, shown_byte, shown, spaces, padded, gap_at, cells_from, line_text, size_line, comma_at, names_from, groups_line, columns_of as all_columns, aligned_text};
+ghost use Rattle.table_print.specs.Cells.{written_row};
+ghost use Rattle.table_print.specs.Aligned.{is_hidden as hides, shown_byte, shown, spaces, padded, gap_at, cells_from, line_text, size_line, comma_at, names_from, groups_line, cell_lines, aligned_text};
 
-use crate::cells::{fill_names, fill_types, fill_values};
+use crate::cells::{cell_at, fill_names, fill_types, fill_values};
 use crate::column::{Column, columns_of};
 use csv::StringRecord;
 use itoa::Buffer;
@@ -88,10 +88,8 @@ fn push_line(out: &mut String, columns: &[Column], line: &StringRecord) -> Mem<(
     ensures { OnOk result (string_bytes out.new ≡ string_bytes out.old ++ line_text columns.now (fields_of line.now)) }
 {
     for place in 0..columns.len() {
-        if let Some(text) = line.get(place) {
-            push_gap(out, place)?;
-            push_cell(out, columns[place], text)?;
-        }
+        push_gap(out, place)?;
+        push_cell(out, columns[place], cell_at(line, place))?;
     }
     out.push('\n')?;
     Ok(())
@@ -163,7 +161,7 @@ fn push_table(
     t: &Table,
 ) -> Mem<()>
     requires { length columns.now ≡ length t.now.schema }
-    ensures { OnOk result (string_bytes out.new ≡ string_bytes out.old ++ line_text columns.now (map name_of t.now.schema) ++ line_text columns.now (map shown_type t.now.schema) ++ flat_map (line_text columns.now) (map written_row t.now.rows)) }
+    ensures { OnOk result (string_bytes out.new ≡ string_bytes out.old ++ flat_map (line_text columns.now) (cell_lines t.now)) }
 {
     let fields = t.schema.as_slice();
     fill_names(line, fields)?;

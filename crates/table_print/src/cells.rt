@@ -1,7 +1,7 @@
 //! The cells of a line: headings, names, types, values.
-ghost use Rattle.std.specs.Prelude.{◌≡◌, ◌++◌, ◌∷◌, [], map, IfOk, OnOk, true, string_bytes};
+ghost use Rattle.std.specs.Prelude.{◌≡◌, ◌<◌, ◌++◌, ◌∷◌, [], length, map, slice_index_or, IfOk, OnOk, true, string_bytes};
 ghost use Rattle.std.specs.List.{list_all};
-ghost use Rattle.csv.specs.Records.{fields_of};
+ghost use Rattle.csv.specs.Records.{AllText, fields_of};
 ghost use Rattle.scalar_fns.specs.Written.{written, is_value};
 ghost use Rattle.table_print.specs.Cells.{type_name, heading as heading_of, shown_type as shown_type_of, name_of, written_row};
 
@@ -46,7 +46,8 @@ fn shown_type(alloc: Global, field: &Field) -> Mem<String>
 
 /// Fills the line with the columns' headings.
 pub fn fill_headings(alloc: Global, line: &mut StringRecord, fields: &[Field]) -> Mem<()>
-    ensures { OnOk result (fields_of line.new ≡ map heading_of fields.now) }
+    ensures cells { OnOk result (fields_of line.new ≡ map heading_of fields.now) }
+    ensures text { OnOk result (AllText (fields_of line.new)) }
 {
     line.clear();
     for field in fields {
@@ -80,7 +81,8 @@ pub fn fill_types(alloc: Global, line: &mut StringRecord, fields: &[Field]) -> M
 /// Appends the text of a value. Texts and whole numbers take no memory of their own.
 fn put_value(alloc: Global, line: &mut StringRecord, value: &Value) -> Mem<()>
     requires { is_value value.now ≡ true }
-    ensures { OnOk result (fields_of line.new ≡ fields_of line.old ++ written value.now ∷ []) }
+    ensures cells { OnOk result (fields_of line.new ≡ fields_of line.old ++ written value.now ∷ []) }
+    ensures text { OnOk result (AllText (fields_of line.old) → AllText (fields_of line.new)) }
 {
     match value {
         Value::Chr(text) => line.push_field(text.as_str())?,
@@ -97,11 +99,23 @@ fn put_value(alloc: Global, line: &mut StringRecord, value: &Value) -> Mem<()>
 /// Fills the line with the texts of a row's values.
 pub fn fill_values(alloc: Global, line: &mut StringRecord, row: &[Value]) -> Mem<()>
     requires { list_all is_value row.now ≡ true }
-    ensures { OnOk result (fields_of line.new ≡ written_row row.now) }
+    ensures cells { OnOk result (fields_of line.new ≡ written_row row.now) }
+    ensures text { OnOk result (AllText (fields_of line.new)) }
 {
     line.clear();
     for value in row {
         put_value(alloc, line, value)?;
     }
     Ok(())
+}
+
+/// The cell at a place of the line.
+pub fn cell_at(line: &StringRecord, place: usize) -> &str
+    requires { place < length (fields_of line.now) }
+    ensures { result.now ≡ slice_index_or (fields_of line.now) place [] }
+{
+    match line.get(place) {
+        Some(text) => text,
+        None => unreachable!(),
+    }
 }

@@ -2,10 +2,10 @@
 ghost use Rattle.std.specs.Prelude.{◌≡◌, map, length, IfOk, OnOk};
 ghost use Rattle.csv.specs.Records.{fields_of};
 ghost use Rattle.table_print.specs.Cells.{written_row};
-ghost use Rattle.table_print.specs.Aligned.{stands_right as right_of, cell_lines, columns_from};
+ghost use Rattle.table_print.specs.Aligned.{stands_right as right_of, cell_lines, columns_of as all_columns};
 ghost use Rattle.table_print.specs.Widths.{narrow, widened, widened_by};
 
-use crate::cells::{fill_names, fill_types, fill_values};
+use crate::cells::{cell_at, fill_names, fill_types, fill_values};
 use csv::StringRecord;
 use row_table::{Field, Table};
 use scalar_fns::chars;
@@ -48,10 +48,8 @@ fn widen(columns: &mut [Column], line: &StringRecord)
     ensures { columns.new ≡ widened columns.old (fields_of line.now) }
 {
     for place in 0..columns.len() {
-        if let Some(text) = line.get(place) {
-            let width = columns[place].width.max(chars(text));
-            columns[place].width = width;
-        }
+        let width = columns[place].width.max(chars(cell_at(line, place)));
+        columns[place].width = width;
     }
 }
 
@@ -73,16 +71,29 @@ fn widen_to_rows(
     Ok(())
 }
 
-/// The columns of a table, as wide as its names, types and values need.
-pub fn columns_of(alloc: Global, line: &mut StringRecord, t: &Table) -> Mem<Vec<Column>>
-    ensures { IfOk result (λ columns. columns.items ≡ columns_from 0 t.now.schema (cell_lines t.now)) }
+/// Makes each column as wide as its name, its type and its cells in all rows need.
+fn widen_to_table(
+    alloc: Global,
+    columns: &mut [Column],
+    line: &mut StringRecord,
+    t: &Table,
+) -> Mem<()>
+    requires { length columns.old ≡ length t.now.schema }
+    ensures { OnOk result (columns.new ≡ widened_by columns.old (cell_lines t.now)) }
 {
     let fields = t.schema.as_slice();
-    let mut columns = narrow_columns(alloc, fields)?;
     fill_names(line, fields)?;
-    widen(&mut columns, line);
+    widen(columns, line);
     fill_types(alloc, line, fields)?;
-    widen(&mut columns, line);
-    widen_to_rows(alloc, &mut columns, line, t)?;
+    widen(columns, line);
+    widen_to_rows(alloc, columns, line, t)
+}
+
+/// The columns of a table, each as wide as its widest cell.
+pub fn columns_of(alloc: Global, line: &mut StringRecord, t: &Table) -> Mem<Vec<Column>>
+    ensures { IfOk result (λ columns. columns.items ≡ all_columns t.now) }
+{
+    let mut columns = narrow_columns(alloc, t.schema.as_slice())?;
+    widen_to_table(alloc, &mut columns, line, t)?;
     Ok(columns)
 }

@@ -1,7 +1,7 @@
 //! A table as CSV.
 ghost use Rattle.std.specs.Prelude.{◌≡◌, ◌++◌, ℕ, List, [], IfOk, OnOk};
 ghost use Rattle.std.specs.List.{flat_map};
-ghost use Rattle.csv.specs.Records.{fields_of};
+ghost use Rattle.csv.specs.Records.{AllText, fields_of};
 ghost use Rattle.table_print.specs.Cells.{written_row};
 ghost use Rattle.table_print.specs.CsvText.{csv_line, csv_text};
 ghost use Rattle.table_print.specs.Writers.{HasWritten};
@@ -14,6 +14,7 @@ use std::alloc::Global;
 
 /// Writes a line. Over a vector only memory is refused, and all lines of a table have as many fields.
 fn put_line(writer: &mut Writer<Vec<u8>>, line: &StringRecord) -> Mem<()>
+    requires { AllText (fields_of line.now) }
     ensures { OnOk result ((text : List ℕ) → HasWritten writer.old text → HasWritten writer.new (text ++ csv_line (fields_of line.now))) }
 {
     if writer.write_byte_record(line.as_byte_record()).is_err() {

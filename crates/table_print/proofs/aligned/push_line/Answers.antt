@@ -1,13 +1,11 @@
-use Rattle.std.proofs.Common.{rules, ◌≡◌, ◌++◌, ◌∷◌, [], ◌==◌, length, map, decimal, IfOk, OnOk, string_bytes, ℕ, ◌+◌, ◌-◌, ◌*◌, ◌<◌, ◌≤◌, ◌/◌, ◌%◌, Bool, true, false, nat_eq, nat_lt, List, slice_index_or, slice_set, bit_and, bit_or, Fits, w8, w32, w64, Bor, MutBor}
-use Rattle.std.specs.List.{flat_map, list_any}
+use Rattle.std.proofs.Common.{◌≡◌, ◌++◌, arith}
+use Rattle.std.specs.Prelude.{string_bytes}
 use Rattle.csv.specs.Records.{fields_of}
-use Rattle.table_print.specs.Cells.{name_of, shown_type, written_row}
-use Rattle.table_print.specs.Aligned.{is_hidden as hides}
-use Rattle.table_print.specs.Aligned.{shown_byte, shown, spaces, padded, gap_at, cells_from, line_text, size_line, comma_at, names_from, groups_line}
-use Rattle.table_print.specs.Aligned.{columns_of as all_columns}
-use Rattle.table_print.specs.Aligned.{aligned_text}
+use Rattle.table_print.specs.Aligned.{cells_from}
+use Rattle.table_print.proofs.Lines.{line-step}
 use Rattle.table_print.proofs.aligned.push_line.Goals as goal
 
--- src/aligned.rt:90:5
 pub loop-place-preserved : goal.loop-place-preserved
-loop-place-preserved c = ?
+loop-place-preserved c =
+    line-step c.loop-place.place c.args.columns.now (fields_of c.args.line.now) _ c.cell_at.result.now (string_bytes c.loop-place.out) (string_bytes c.push_gap.new.out) (string_bytes c.push_cell.new.out)
+    (string_bytes c.args.out.now ++ cells_from 0 c.args.columns.now (fields_of c.args.line.now)) c.loop-place-test.true c.requires c.cell_at.ensures c.loop-place.invariant c.in_ok-push_gap.ensures c.in_ok-push_cell.ensures
