@@ -9,5 +9,5 @@ mod csv_text;
 pub use aligned::write_aligned;
 pub use csv_text::write_csv;
 
-
-
+#[cfg(test)]
+mod tests;
