@@ -1,0 +1,3 @@
+pub mod Joined
+pub mod OfKind
+pub mod Budgets

@@ -1,0 +1,5 @@
+pub mod Cells
+pub mod CsvText
+pub mod Aligned
+pub mod Writers
+pub mod Widths
