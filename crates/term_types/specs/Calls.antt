@@ -175,6 +175,11 @@ of_few f (a ∷ b ∷ []) = of_two f a b
 of_few f (a ∷ b ∷ c ∷ []) = of_three f a b c
 of_few f (a ∷ b ∷ c ∷ d ∷ ps) = Err type_fault.WrongArguments
 
+abbrev pub is_list_call : ExprFn → Bool
+is_list_call (Coalesce t) = true
+is_list_call Paste0 = true
+is_list_call f = false
+
 abbrev pub of_parts : ExprFn → List Piece → Result Piece TypeFault
 of_parts (Coalesce t) = first_there
 of_parts Paste0 = over Paste0 Lgl
@@ -220,10 +225,13 @@ between_parts at x a b =
     let dated = has_date x || (has_date a || has_date b) in
     and_then (beside_date dated x) (λ y. and_then (beside_date dated a) (λ low. and_then (beside_date dated b) (λ high. stands_at at (within y low high))))
 
+abbrev pub piece_of_part : ℕ × Piece → Piece
+piece_of_part part = part.1
+
 -- any function of row values, over its parts
 abbrev pub function_call : ℕ → ExprFn → List (ℕ × Piece) → Result Piece TermFault
 function_call at Between (x ∷ a ∷ b ∷ []) = between_parts at x a b
-function_call at f parts = stands_at at (of_parts f (map (λ part. part.1) parts))
+function_call at f parts = stands_at at (of_parts f (map piece_of_part parts))
 
 -- x and the literals of a list, in which a text beside a date is read as a date
 abbrev pub with_items : ℕ × Piece → List (ℕ × Piece) → Result (List Piece) TermFault

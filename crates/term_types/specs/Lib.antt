@@ -1,5 +1,6 @@
 pub mod Calls
 pub mod Faults
 pub mod Names
+pub mod Parts
 pub mod Pieces
 pub mod Terms

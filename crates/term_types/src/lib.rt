@@ -5,9 +5,10 @@ mod calls;
 mod cases;
 mod fault;
 mod names;
+mod parts;
 mod piece;
+mod terms;
 
-pub use calls::{Part, between_parts, call_of, first_there, membership, of_one, of_three, of_two, operated, pasted};
 pub use fault::{TermFault, TermFaultKind};
-pub use names::callee_named;
 pub use piece::Piece;
+pub use terms::{expression_of, piece_of};
