@@ -31,5 +31,5 @@ given_at g had es n e x h is given =
 pub faulty_at : {E A F : Type 0} (g : E → Result A F) (had : List A) (es : List E) (n : ℕ) (e : E) (f : F) → n < length es → e ≡ get_or es n e → g e ≡ Err f → behind had (all_of (map g (drop n es))) ≡ Err f
 faulty_at g had es n e f h is given = ap (λ l. behind had (all_of (map g l))) (split es n e h is) ∙ one_faulty g had e (drop (suc n) es) f given
 
-pub given_all : {E A F : Type 0} (g : E → Result A F) (had : List A) (es : List E) (n : ℕ) → length es ≤ n → behind had (all_of (map g (drop n es))) ≡ Ok {A = List A} {B = F} had
+pub given_all : {E A F : Type 0} (g : E → Result A F) (had : List A) (es : List E) (n : ℕ) → length es ≤ n → behind had (all_of (map g (drop n es))) ≡ Ok had
 given_all g had es n h = ap (λ l. behind had (all_of (map g l))) (drop_all n es h) ∙ ap (λ l. Ok l) (append-nil had)

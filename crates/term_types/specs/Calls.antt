@@ -18,7 +18,7 @@ use Rattle.term_types.specs.declared.fault.TermFaultKind.TheVariants.{WrongArgum
 use Rattle.term_types.specs.declared.piece.Piece.{Piece}
 use Rattle.term_types.specs.declared.piece.Piece.TheVariants.{Free, Literal, Typed}
 use Rattle.term_types.specs.Faults.{and_then, all_of, fault, stands_at}
-use Rattle.term_types.specs.Pieces.{kind_of, type_as, expr_as, is_literal, text_of, needed, needed_by, is_free, are_free}
+use Rattle.term_types.specs.Pieces.{kind_of, type_as, expr_as, is_literal, text_of, first_kind, needed, needed_by, is_free, are_free}
 
 -- ---- the expression that is made
 
@@ -27,7 +27,7 @@ abbrev pub typed_piece : ExprFn → List Expr → Result ColType TypeFault → R
 typed_piece f es (Ok t) = Ok (Typed (expr.Call f es) t)
 typed_piece f es (Err e) = Err e
 
-abbrev pub call_of : ExprFn → List Expr → List ColType → Result Piece TypeFault
+unfoldable pub call_of : ExprFn → List Expr → List ColType → Result Piece TypeFault
 call_of f es ts = typed_piece f es (takes f ts)
 
 -- ---- functions of one value, of two and of three
@@ -46,7 +46,7 @@ alone Day = Date
 alone Wday = Date
 alone f = Int
 
-abbrev pub of_one : ExprFn → Piece → Result Piece TypeFault
+unfoldable pub of_one : ExprFn → Piece → Result Piece TypeFault
 of_one f a = call_of f (expr_as (alone f) a ∷ []) (type_as (alone f) a ∷ [])
 
 abbrev pub is_logic : ExprFn → Bool
@@ -71,7 +71,7 @@ beside f other =
 abbrev pub before : ExprFn → Option ColType → ColType
 before f other = if is_difference f && is_date other then Date else beside f other
 
-abbrev pub of_two : ExprFn → Piece → Piece → Result Piece TypeFault
+unfoldable pub of_two : ExprFn → Piece → Piece → Result Piece TypeFault
 of_two f a b =
     let left = before f (kind_of b) in
     let right = beside f (kind_of a) in
@@ -98,7 +98,7 @@ choice c a b =
     free_where (are_free (kind_of a ∷ kind_of b ∷ [])) (call_of (IfElse kind) (expr_as Lgl c ∷ expr_as t a ∷ expr_as t b ∷ []) (type_as Lgl c ∷ type_as t a ∷ type_as t b ∷ []))
 
 -- `between(x, a, b)`
-abbrev pub within : Piece → Piece → Piece → Result Piece TypeFault
+unfoldable pub within : Piece → Piece → Piece → Result Piece TypeFault
 within x a b =
     let t = needed (kind_of x ∷ kind_of a ∷ kind_of b ∷ []) in
     call_of Between (expr_as t x ∷ expr_as t a ∷ expr_as t b ∷ []) (type_as t x ∷ type_as t a ∷ type_as t b ∷ [])
@@ -116,18 +116,26 @@ of_three f = text_part f
 -- ---- functions of a list of values
 
 -- parts that are to agree, where this type is needed of free ones
-abbrev pub over : ExprFn → ColType → List Piece → Result Piece TypeFault
+unfoldable pub over : ExprFn → ColType → List Piece → Result Piece TypeFault
 over f t ps = call_of f (map (expr_as t) ps) (map (type_as t) ps)
 
 -- `x %in% c(..)`, of x and the literals
-abbrev pub in_list : List Piece → Result Piece TypeFault
+unfoldable pub in_list : List Piece → Result Piece TypeFault
 in_list ps = over IsIn (needed (map kind_of ps)) ps
 
+-- a choice among the parts of a list, by the type of the first that has one
+unfoldable pub choice_over : ExprFn → Option ColType → List Piece → Result Piece TypeFault
+choice_over f kind ps = free_where (is_free kind) (over f (needed_by kind) ps)
+
+-- the type on which parts agree, where this type is needed of free ones
+abbrev pub agreement_as : ColType → List Piece → ColType
+agreement_as t ps = agreement (map (type_as t) ps)
+
 -- `coalesce(a, ..)`
-abbrev pub first_there : List Piece → Result Piece TypeFault
+unfoldable pub first_there : List Piece → Result Piece TypeFault
 first_there ps =
-    let t = needed (map kind_of ps) in
-    free_where (are_free (map kind_of ps)) (over (Coalesce (agreement (map (type_as t) ps))) t ps)
+    let kind = first_kind (map kind_of ps) in
+    choice_over (Coalesce (agreement_as (needed_by kind) ps)) kind ps
 
 abbrev pub default_of : Option Piece → List Piece
 default_of None = []
@@ -156,7 +164,7 @@ case_kinds t cs default = flat_map (λ c. type_as Lgl c.0 ∷ type_as t c.1 ∷ 
 abbrev pub case_values : ColType → List (Piece × Piece) → Option Piece → List ColType
 case_values t cs default = map (λ c. type_as t c.1) cs ++ map (type_as t) (default_of default)
 
-abbrev pub cases_by : Option ColType → List (Piece × Piece) → Option Piece → Result Piece TypeFault
+unfoldable pub cases_by : Option ColType → List (Piece × Piece) → Option Piece → Result Piece TypeFault
 cases_by kind cs default =
     let t = needed_by kind in
     free_where (is_free kind) (call_of (CaseWhen (agreement (case_values t cs default))) (case_args t cs default) (case_kinds t cs default))
@@ -202,7 +210,7 @@ text_as_date at p None = Ok p
 text_as_date at p (Some day) = date_or_wrong at day
 
 -- a part beside a date: a text as it is written is read as a date
-abbrev pub beside_date : Bool → ℕ × Piece → Result Piece TermFault
+unfoldable pub beside_date : Bool → ℕ × Piece → Result Piece TermFault
 beside_date dated part = if dated then text_as_date part.0 part.1 (text_day (text_of part.1)) else Ok part.1
 
 abbrev pub has_date : ℕ × Piece → Bool
@@ -211,16 +219,16 @@ has_date part = is_date (kind_of part.1)
 -- ---- calls at their places
 
 -- a comparison
-abbrev pub comparison : ℕ → ExprFn → ℕ × Piece → ℕ × Piece → Result Piece TermFault
+unfoldable pub comparison : ℕ → ExprFn → ℕ × Piece → ℕ × Piece → Result Piece TermFault
 comparison at f a b =
     and_then (beside_date (has_date b) a) (λ left. and_then (beside_date (has_date a) b) (λ right. stands_at at (of_two f left right)))
 
 -- an operator between two parts, at its place
-abbrev pub operated : ℕ → ExprFn → ℕ × Piece → ℕ × Piece → Result Piece TermFault
+unfoldable pub operated : ℕ → ExprFn → ℕ × Piece → ℕ × Piece → Result Piece TermFault
 operated at f a b = if is_comparison f then comparison at f a b else stands_at at (of_two f a.1 b.1)
 
 -- `between`, of three parts
-abbrev pub between_parts : ℕ → ℕ × Piece → ℕ × Piece → ℕ × Piece → Result Piece TermFault
+unfoldable pub between_parts : ℕ → ℕ × Piece → ℕ × Piece → ℕ × Piece → Result Piece TermFault
 between_parts at x a b =
     let dated = has_date x || (has_date a || has_date b) in
     and_then (beside_date dated x) (λ y. and_then (beside_date dated a) (λ low. and_then (beside_date dated b) (λ high. stands_at at (within y low high))))
@@ -229,18 +237,23 @@ abbrev pub piece_of_part : ℕ × Piece → Piece
 piece_of_part part = part.1
 
 -- any function of row values, over its parts
-abbrev pub function_call : ℕ → ExprFn → List (ℕ × Piece) → Result Piece TermFault
+unfoldable pub function_call : ℕ → ExprFn → List (ℕ × Piece) → Result Piece TermFault
 function_call at Between (x ∷ a ∷ b ∷ []) = between_parts at x a b
 function_call at f parts = stands_at at (of_parts f (map piece_of_part parts))
 
 -- x and the literals of a list, in which a text beside a date is read as a date
-abbrev pub with_items : ℕ × Piece → List (ℕ × Piece) → Result (List Piece) TermFault
+unfoldable pub with_items : ℕ × Piece → List (ℕ × Piece) → Result (List Piece) TermFault
 with_items x items = and_then (all_of (map (beside_date (has_date x)) items)) (λ literals. Ok (x.1 ∷ literals))
 
+-- x among these literals
+unfoldable pub among_literals : ℕ → ℕ × Piece → List (ℕ × Piece) → Result Piece TermFault
+among_literals at x items = and_then (with_items x items) (λ ps. stands_at at (in_list ps))
+
+abbrev pub among_items : ℕ → ℕ × Piece → List (ℕ × Piece) → Result Piece TermFault
+among_items at x items =
+    if list_all (λ (item : ℕ × Piece). is_literal item.1) items then among_literals at x items else fault WrongArguments at
+
 -- `x %in% c(..)`: the parts of the list are literals
-abbrev pub membership : ℕ → ℕ × Piece → Option (List (ℕ × Piece)) → Result Piece TermFault
+unfoldable pub membership : ℕ → ℕ × Piece → Option (List (ℕ × Piece)) → Result Piece TermFault
 membership at x None = fault WrongArguments at
-membership at x (Some items) =
-    if list_all (λ (item : ℕ × Piece). is_literal item.1) items
-    then and_then (with_items x items) (λ ps. stands_at at (in_list ps))
-    else fault WrongArguments at
+membership at x (Some items) = among_items at x items

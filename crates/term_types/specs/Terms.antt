@@ -71,7 +71,7 @@ abbrev pub field_kind : Option Field → ColType
 field_kind None = Lgl
 field_kind (Some f) = f.kind
 
-abbrev pub column_at : List Field → ℕ → Option ℕ → Result Piece TermFault
+unfoldable pub column_at : List Field → ℕ → Option ℕ → Result Piece TermFault
 column_at schema at None = fault UnknownColumn at
 column_at schema at (Some i) = Ok (Typed (expr.Col i) (field_kind (slice_get schema i)))
 
@@ -90,7 +90,7 @@ abbrev pub negative : ℕ → Piece → Result Piece TermFault
 negative at (Number v t) = Ok (Literal (negated v) t)
 negative at p = stands_at at (of_one call.Neg p)
 
-abbrev pub signed : ℕ → Oper → Piece → Result Piece TermFault
+unfoldable pub signed : ℕ → Oper → Piece → Result Piece TermFault
 signed at op.Sub p = negative at p
 signed at op.Not p = stands_at at (of_one call.Not p)
 signed at o p = fault WrongArguments at
@@ -180,7 +180,7 @@ with_cases had (a ∷ args) = and_then (with_case had a.name a.at a.value) (λ n
 abbrev pub no_cases : Cases
 no_cases = record { conditions = []; default = None; stray = false }
 
-abbrev pub case_call : ℕ → Cases → Result Piece TermFault
+unfoldable pub case_call : ℕ → Cases → Result Piece TermFault
 case_call at had = if had.stray then fault WrongArguments at else stands_at at (cases had.conditions had.default)
 
 abbrev pub is_case_when : ExprFn → Bool
@@ -197,7 +197,7 @@ day_literal at None = fault WrongArguments at
 day_literal at (Some None) = fault WrongArguments at
 day_literal at (Some (Some day)) = Ok (Literal (cell.Day day) Date)
 
-abbrev pub date_call : ℕ → List (ℕ × Piece) → Result Piece TermFault
+unfoldable pub date_call : ℕ → List (ℕ × Piece) → Result Piece TermFault
 date_call at [] = fault WrongArguments at
 date_call at (a ∷ []) = day_literal at (text_day (text_of a.1))
 date_call at (a ∷ b ∷ parts) = fault WrongArguments at

@@ -2,7 +2,7 @@ ghost use Rattle.std.specs.Prelude.{◌≡◌, ◌∷◌, [], IfOk, map};
 ghost use Rattle.std.specs.List.{list_all};
 ghost use Rattle.scalar_value.specs.Gives.{Gives};
 ghost use Rattle.term_types.specs.Faults.{and_then, all_of, stands_at};
-ghost use Rattle.term_types.specs.Calls.{call_of as call_made, alone as wanted_alone, is_logic as logic, before as wanted_left, beside as wanted_right, is_date as date_kind, of_one as one_called, of_two as two_called, of_three as three_called, choice as choice_made, within as within_made, text_part as text_part_made, agreement as values_agree, over as over_all, in_list as in_all, first_there as first_of_all, beside_date as read_beside, has_date as dated_part, comparison as compared, operated as operator_made, between_parts as between_made, with_items as items_joined, membership as member};
+ghost use Rattle.term_types.specs.Calls.{call_of as call_made, alone as wanted_alone, is_logic as logic, before as wanted_left, beside as wanted_right, is_date as date_kind, of_one as one_called, of_two as two_called, of_three as three_called, choice as choice_made, within as within_made, text_part as text_part_made, agreement as values_agree, over as over_all, in_list as in_all, first_there as first_of_all, beside_date as read_beside, has_date as dated_part, comparison as compared, operated as operator_made, between_parts as between_made, with_items as items_joined, membership as member, among_items as items_searched, among_literals as literals_searched, choice_over as chosen_over, agreement_as as parts_agree};
 ghost use Rattle.term_types.specs.Calls.{freed};
 ghost use Rattle.term_types.specs.Pieces.{kind_of, type_as, first_kind, is_free, is_literal as literal};
 ghost use Rattle.na_expr.specs.Evaluation.{is_comparison as comparing, is_text_test as text_testing};
@@ -16,6 +16,7 @@ use std::alloc::Global;
 /// A part of an expression, behind the byte place where it stands.
 pub type Part = (u32, Piece);
 
+#[tactic(auto, unfolding(crate::specs::Calls::call_of))]
 /// The call of a function over expressions of these types.
 pub fn call_of(at: u32, function: ExprFn, args: Seq<Expr>, kinds: &[ColType]) -> Res<Piece, TermFault>
     ensures { Gives result (stands_at at (call_made function args kinds.now)) }
@@ -132,6 +133,7 @@ fn before(function: ExprFn, other: Option<ColType>) -> ColType
     }
 }
 
+#[tactic(auto, unfolding(crate::specs::Calls::of_one))]
 /// A function of one value.
 pub fn of_one(alloc: Global, at: u32, function: ExprFn, a: Piece) -> Res<Piece, TermFault>
     ensures { Gives result (stands_at at (one_called function a)) }
@@ -142,6 +144,7 @@ pub fn of_one(alloc: Global, at: u32, function: ExprFn, a: Piece) -> Res<Piece, 
     call_of(at, function, args, &kinds)
 }
 
+#[tactic(auto, unfolding(crate::specs::Calls::of_two))]
 /// A function of two values.
 pub fn of_two(alloc: Global, at: u32, function: ExprFn, a: Piece, b: Piece) -> Res<Piece, TermFault>
     ensures { Gives result (stands_at at (two_called function a b)) }
@@ -173,6 +176,7 @@ fn first_of_two(a: &Piece, b: &Piece) -> Option<ColType>
     }
 }
 
+#[tactic(auto, using(crate::proofs::Choices::free_given, crate::proofs::Choices::free_faulty))]
 /// `if_else(c, a, b)`
 fn choice(alloc: Global, at: u32, c: Piece, a: Piece, b: Piece) -> Res<Piece, TermFault>
     ensures { Gives result (stands_at at (choice_made c a b)) }
@@ -202,6 +206,7 @@ pub fn free_where(first: Option<ColType>, made: Piece) -> Piece
     }
 }
 
+#[tactic(auto, unfolding(crate::specs::Calls::within))]
 /// `between(x, a, b)`
 fn within(alloc: Global, at: u32, x: Piece, a: Piece, b: Piece) -> Res<Piece, TermFault>
     ensures { Gives result (stands_at at (within_made x a b)) }
@@ -250,6 +255,7 @@ pub fn of_three(alloc: Global, at: u32, function: ExprFn, a: Piece, b: Piece, c:
     }
 }
 
+#[tactic(auto, unfolding(crate::specs::Calls::over))]
 /// A function of a list of parts, of which free ones take this type.
 fn over(alloc: Global, at: u32, function: ExprFn, wanted: ColType, pieces: Seq<Piece>) -> Res<Piece, TermFault>
     ensures { Gives result (stands_at at (over_all function wanted pieces)) }
@@ -274,6 +280,7 @@ fn kinds_as(alloc: Global, wanted: ColType, pieces: &[Piece]) -> Mem<Seq<ColType
     Ok(kinds)
 }
 
+#[tactic(auto, unfolding(crate::specs::Calls::in_list))]
 /// `x %in% c(..)`, of x and the literals.
 fn in_list(alloc: Global, at: u32, pieces: Seq<Piece>) -> Res<Piece, TermFault>
     ensures { Gives result (stands_at at (in_all pieces)) }
@@ -282,16 +289,31 @@ fn in_list(alloc: Global, at: u32, pieces: Seq<Piece>) -> Res<Piece, TermFault>
     over(alloc, at, ExprFn::IsIn, wanted, pieces)
 }
 
+#[tactic(auto, using(crate::proofs::Choices::free_given, crate::proofs::Choices::free_faulty), unfolding(crate::specs::Calls::choice_over))]
+/// A choice among the parts of a list, by the type of the first that has one.
+fn choice_over(alloc: Global, at: u32, function: ExprFn, first: Option<ColType>, pieces: Seq<Piece>) -> Res<Piece, TermFault>
+    ensures { Gives result (stands_at at (chosen_over function first pieces)) }
+{
+    let made = over(alloc, at, function, needed_beside(first), pieces)?;
+    Ok(free_where(first, made))
+}
+
+/// The type on which parts agree, where free ones take this type.
+fn agreement_as(alloc: Global, wanted: ColType, pieces: &[Piece]) -> Mem<ColType>
+    ensures { IfOk result (λ kind. kind ≡ parts_agree wanted pieces.now) }
+{
+    let kinds = kinds_as(alloc, wanted, pieces)?;
+    Ok(agreement(kinds.as_slice()))
+}
+
+#[tactic(auto, unfolding(crate::specs::Calls::first_there))]
 /// `coalesce(a, ..)`
 pub fn first_there(alloc: Global, at: u32, pieces: Seq<Piece>) -> Res<Piece, TermFault>
     ensures { Gives result (stands_at at (first_of_all pieces)) }
 {
     let first = first_typed(pieces.as_slice());
-    let wanted = needed_beside(first);
-    let kinds = kinds_as(alloc, wanted, pieces.as_slice())?;
-    let function = ExprFn::Coalesce(agreement(kinds.as_slice()));
-    let made = over(alloc, at, function, wanted, pieces)?;
-    Ok(free_where(first, made))
+    let kind = agreement_as(alloc, needed_beside(first), pieces.as_slice())?;
+    choice_over(alloc, at, ExprFn::Coalesce(kind), first, pieces)
 }
 
 /// `paste0(a, ..)`
@@ -301,6 +323,7 @@ pub fn pasted(alloc: Global, at: u32, pieces: Seq<Piece>) -> Res<Piece, TermFaul
     over(alloc, at, ExprFn::Paste0, ColType::Lgl, pieces)
 }
 
+#[tactic(auto, unfolding(crate::specs::Calls::beside_date))]
 /// A part beside a date: a text as it is written is read as a date.
 fn beside_date(dated: bool, part: Part) -> Res<Piece, TermFault>
     ensures { Gives result (read_beside dated part) }
@@ -322,6 +345,7 @@ fn has_date(part: &Part) -> bool
     is_date(part.1.kind())
 }
 
+#[tactic(auto, unfolding(crate::specs::Calls::comparison))]
 fn comparison(alloc: Global, at: u32, function: ExprFn, a: Part, b: Part) -> Res<Piece, TermFault>
     ensures { Gives result (compared at function a b) }
 {
@@ -331,6 +355,7 @@ fn comparison(alloc: Global, at: u32, function: ExprFn, a: Part, b: Part) -> Res
     of_two(alloc, at, function, left, right)
 }
 
+#[tactic(auto, unfolding(crate::specs::Calls::operated))]
 /// An operator between two parts.
 pub fn operated(alloc: Global, at: u32, function: ExprFn, a: Part, b: Part) -> Res<Piece, TermFault>
     ensures { Gives result (operator_made at function a b) }
@@ -342,6 +367,7 @@ pub fn operated(alloc: Global, at: u32, function: ExprFn, a: Part, b: Part) -> R
     }
 }
 
+#[tactic(auto, unfolding(crate::specs::Calls::between_parts))]
 /// `between`, of three parts.
 pub fn between_parts(alloc: Global, at: u32, x: Part, a: Part, b: Part) -> Res<Piece, TermFault>
     ensures { Gives result (between_made at x a b) }
@@ -364,6 +390,7 @@ fn are_literals(items: &[Part]) -> bool
     true
 }
 
+#[tactic(auto, unfolding(crate::specs::Calls::with_items))]
 /// x and the literals of a list, in which a text beside a date is read as a date.
 fn with_items(alloc: Global, x: Part, items: Seq<Part>) -> Res<Seq<Piece>, TermFault>
     ensures { Gives result (items_joined x items) }
@@ -377,16 +404,33 @@ fn with_items(alloc: Global, x: Part, items: Seq<Part>) -> Res<Seq<Piece>, TermF
     Ok(made)
 }
 
+#[tactic(auto, unfolding(crate::specs::Calls::among_literals))]
+/// x among literals.
+fn among_literals(alloc: Global, at: u32, x: Part, items: Seq<Part>) -> Res<Piece, TermFault>
+    ensures { Gives result (literals_searched at x items) }
+{
+    let pieces = with_items(alloc, x, items)?;
+    in_list(alloc, at, pieces)
+}
+
+/// x among parts, which are to be literals.
+fn among_items(alloc: Global, at: u32, x: Part, items: Seq<Part>) -> Res<Piece, TermFault>
+    ensures { Gives result (items_searched at x items) }
+{
+    if are_literals(items.as_slice()) {
+        among_literals(alloc, at, x, items)
+    } else {
+        Err(fault(TermFaultKind::WrongArguments, at))
+    }
+}
+
+#[tactic(auto, unfolding(crate::specs::Calls::membership))]
 /// `x %in% c(..)`
 pub fn membership(alloc: Global, at: u32, x: Part, items: Option<Seq<Part>>) -> Res<Piece, TermFault>
     ensures { Gives result (member at x items) }
 {
-    let Some(items) = items else {
-        return Err(fault(TermFaultKind::WrongArguments, at));
-    };
-    if !are_literals(items.as_slice()) {
-        return Err(fault(TermFaultKind::WrongArguments, at));
+    match items {
+        Some(items) => among_items(alloc, at, x, items),
+        None => Err(fault(TermFaultKind::WrongArguments, at)),
     }
-    let pieces = with_items(alloc, x, items)?;
-    in_list(alloc, at, pieces)
 }

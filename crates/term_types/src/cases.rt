@@ -102,6 +102,7 @@ fn case_arguments(alloc: Global, wanted: ColType, conditions: Seq<(Piece, Piece)
     Ok(made)
 }
 
+#[tactic(auto, using(crate::proofs::Choices::free_given, crate::proofs::Choices::free_faulty), unfolding(crate::specs::Calls::cases_by))]
 /// A `case_when` with at least one condition, by the type of its first value that has one.
 fn cases(alloc: Global, at: u32, conditions: Seq<(Piece, Piece)>, default: Option<Piece>) -> Res<Piece, TermFault>
     ensures { Gives result (stands_at at (cases_by (first_case_kind conditions default) conditions default)) }
@@ -113,6 +114,7 @@ fn cases(alloc: Global, at: u32, conditions: Seq<(Piece, Piece)>, default: Optio
     Ok(free_where(first, piece))
 }
 
+#[tactic(auto, unfolding(crate::specs::Terms::case_call))]
 /// A `case_when` of these arguments.
 pub fn case_call(alloc: Global, at: u32, had: Cases) -> Res<Piece, TermFault>
     ensures { Gives result (case_called at had) }

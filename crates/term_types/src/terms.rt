@@ -24,6 +24,7 @@ fn place_of(fields: &[Field], name: &Text) -> Option<usize>
     fields.iter().position(|field| field.name == *name)
 }
 
+#[tactic(auto, unfolding(crate::specs::Terms::column_at))]
 /// The column of this name.
 fn column(schema: &Schema, at: u32, name: &Text) -> Res<Piece, TermFault>
     ensures { Gives result (column_at schema.now at (place_named name.now schema.now)) }
@@ -60,6 +61,7 @@ fn negative(alloc: Global, at: u32, operand: Piece) -> Res<Piece, TermFault>
     }
 }
 
+#[tactic(auto, unfolding(crate::specs::Terms::signed))]
 /// A part behind an operator of one value.
 fn signed(alloc: Global, at: u32, oper: Oper, operand: Piece) -> Res<Piece, TermFault>
     ensures { Gives result (signed_read at oper operand) }
@@ -94,6 +96,7 @@ fn operator(oper: Oper) -> Option<ExprFn>
     }
 }
 
+#[tactic(auto, unfolding(crate::specs::Calls::function_call))]
 /// A call of a row function other than `case_when`.
 fn function_call(alloc: Global, at: u32, function: ExprFn, parts: Seq<Part>) -> Res<Piece, TermFault>
     ensures { Gives result (functions_call at function parts) }
@@ -105,6 +108,7 @@ fn function_call(alloc: Global, at: u32, function: ExprFn, parts: Seq<Part>) -> 
     }
 }
 
+#[tactic(auto, unfolding(crate::specs::Calls::function_call))]
 /// A call of a function of one to three values.
 fn few_parts(alloc: Global, at: u32, function: ExprFn, parts: Parts) -> Res<Piece, TermFault>
     requires { is_list_call function ≡ false }
@@ -119,6 +123,7 @@ fn few_parts(alloc: Global, at: u32, function: ExprFn, parts: Parts) -> Res<Piec
     }
 }
 
+#[tactic(auto, unfolding(crate::specs::Calls::function_call))]
 /// A call of a function of three values.
 fn three_parts(alloc: Global, at: u32, function: ExprFn, a: Part, b: Part, c: Part) -> Res<Piece, TermFault>
     requires { is_list_call function ≡ false }
@@ -130,6 +135,7 @@ fn three_parts(alloc: Global, at: u32, function: ExprFn, a: Part, b: Part, c: Pa
     }
 }
 
+#[tactic(auto, unfolding(crate::specs::Terms::date_call))]
 /// `as.Date` of a text as it is written.
 fn date_call(alloc: Global, at: u32, parts: Seq<Part>) -> Res<Piece, TermFault>
     ensures { Gives result (date_called at parts) }
