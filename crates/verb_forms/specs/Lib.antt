@@ -1,0 +1,4 @@
+pub mod After
+pub mod Columns
+pub mod Shapes
+pub mod Suits
