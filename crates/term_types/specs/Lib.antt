@@ -1,4 +1,5 @@
 pub mod Calls
+pub mod Collecting
 pub mod Faults
 pub mod Names
 pub mod Parts

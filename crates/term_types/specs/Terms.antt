@@ -126,11 +126,15 @@ abbrev pub is_tilde : Oper → Bool
 is_tilde op.Tilde = true
 is_tilde o = false
 
-abbrev pub binary_value : ℕ → Oper → Reading → Reading → Result Piece TermFault
-binary_value at o l r =
+-- an operator behind its left part
+abbrev pub behind_left : ℕ → Oper → ℕ × Piece → Reading → Result Piece TermFault
+behind_left at o x r =
     if is_membership o
-    then and_then (part l) (λ x. and_then r.items (membership at x))
-    else and_then (part l) (λ a. and_then (part r) (λ b. between_two at (operator o) a b))
+    then and_then r.items (membership at x)
+    else and_then (part r) (between_two at (operator o) x)
+
+abbrev pub binary_value : ℕ → Oper → Reading → Reading → Result Piece TermFault
+binary_value at o l r = and_then (part l) (λ x. behind_left at o x r)
 
 abbrev pub both_sides : Reading → Reading → Result (Option (Piece × Piece)) TermFault
 both_sides l r = and_then l.value (λ c. and_then r.value (λ v. Ok (Some (c, v))))
@@ -192,15 +196,19 @@ row_call at f args =
     if is_case_when f then and_then (with_cases no_cases args) (case_call at) else and_then (plain_arguments args) (function_call at f)
 
 -- `as.Date` of a text as it is written; another text, and another argument, is wrong
-abbrev pub day_literal : ℕ → Option (Option ℤ) → Result Piece TermFault
+unfoldable pub day_literal : ℕ → Option (Option ℤ) → Result Piece TermFault
 day_literal at None = fault WrongArguments at
 day_literal at (Some None) = fault WrongArguments at
 day_literal at (Some (Some day)) = Ok (Literal (cell.Day day) Date)
 
-unfoldable pub date_call : ℕ → List (ℕ × Piece) → Result Piece TermFault
-date_call at [] = fault WrongArguments at
-date_call at (a ∷ []) = day_literal at (text_day (text_of a.1))
-date_call at (a ∷ b ∷ parts) = fault WrongArguments at
+-- the day of the one text in the parentheses
+abbrev pub only_day : List (ℕ × Piece) → Option (Option ℤ)
+only_day [] = None
+only_day (a ∷ []) = text_day (text_of a.1)
+only_day (a ∷ b ∷ parts) = None
+
+abbrev pub date_call : ℕ → List (ℕ × Piece) → Result Piece TermFault
+date_call at parts = day_literal at (only_day parts)
 
 -- the values of all arguments, whatever their names
 abbrev pub any_arguments : List Argument → Result (List Piece) TermFault

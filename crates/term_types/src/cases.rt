@@ -5,6 +5,7 @@ ghost use Rattle.scalar_value.specs.declared.value.ColType.TheVariants.{Lgl};
 ghost use Rattle.term_types.specs.Faults.{stands_at};
 ghost use Rattle.term_types.specs.Pieces.{kind_of, type_as, expr_as};
 ghost use Rattle.term_types.specs.Calls.{cases as cases_made, cases_by, case_kind as first_case_kind, case_args, case_kinds, case_values, default_kind, default_of};
+ghost use Rattle.term_types.specs.Collecting.{case_lists};
 ghost use Rattle.term_types.specs.Terms.{case_call as case_called};
 
 use crate::calls::{agreement, call_of, free_where};
@@ -77,7 +78,7 @@ fn case_kind(conditions: &[(Piece, Piece)], default: &Option<Piece>) -> Option<C
 
 /// The arguments of a `case_when`, where free values take this type.
 fn collected(alloc: Global, wanted: ColType, conditions: Seq<(Piece, Piece)>) -> Mem<CaseCall>
-    ensures { IfOk result (λ made. (made.args ≡ flat_map (λ c. expr_as Lgl c.0 ∷ expr_as wanted c.1 ∷ []) conditions) × (made.kinds ≡ flat_map (λ c. type_as Lgl c.0 ∷ type_as wanted c.1 ∷ []) conditions) × (made.values ≡ map (λ c. type_as wanted c.1) conditions)) }
+    ensures { IfOk result (λ made. made ≡ case_lists wanted conditions) }
 {
     let mut made = CaseCall {
         args: Seq::new(alloc),
@@ -104,7 +105,7 @@ fn case_arguments(alloc: Global, wanted: ColType, conditions: Seq<(Piece, Piece)
 
 #[tactic(auto, using(crate::proofs::Choices::free_given, crate::proofs::Choices::free_faulty), unfolding(crate::specs::Calls::cases_by))]
 /// A `case_when` with at least one condition, by the type of its first value that has one.
-fn cases(alloc: Global, at: u32, conditions: Seq<(Piece, Piece)>, default: Option<Piece>) -> Res<Piece, TermFault>
+fn case_when(alloc: Global, at: u32, conditions: Seq<(Piece, Piece)>, default: Option<Piece>) -> Res<Piece, TermFault>
     ensures { Gives result (stands_at at (cases_by (first_case_kind conditions default) conditions default)) }
 {
     let first = case_kind(conditions.as_slice(), &default);
@@ -122,5 +123,5 @@ pub fn case_call(alloc: Global, at: u32, had: Cases) -> Res<Piece, TermFault>
     if had.stray || had.conditions.is_empty() {
         return Err(fault(TermFaultKind::WrongArguments, at));
     }
-    cases(alloc, at, had.conditions, had.default)
+    case_when(alloc, at, had.conditions, had.default)
 }

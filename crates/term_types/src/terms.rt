@@ -3,7 +3,7 @@ ghost use Rattle.scalar_value.specs.Gives.{Gives};
 ghost use Rattle.term_types.specs.Faults.{and_then, all_of};
 ghost use Rattle.term_types.specs.Parts.{parts_list};
 ghost use Rattle.term_types.specs.Calls.{function_call as functions_call, is_list_call};
-ghost use Rattle.term_types.specs.Terms.{reading, called, argument, piece as piece_read, expression as expression_read, place_of as place_named, column_at, word_piece as word_read, negative as negative_read, signed as signed_read, operator as operator_named, part, binary_value, plain_arguments as plain_read, plain_argument as plain_one, any_arguments, with_case as with_one_case, with_cases as with_all_cases, no_cases, row_call as row_called, date_call as date_called};
+ghost use Rattle.term_types.specs.Terms.{reading, called, argument, piece as piece_read, expression as expression_read, place_of as place_named, column_at, word_piece as word_read, negative as negative_read, signed as signed_read, operator as operator_named, part, behind_left as left_read, between_two as between_made, is_membership as membership_named, is_tilde as tilde_named, only_day as day_in, day_literal as day_made, plain_arguments as plain_read, plain_argument as plain_one, any_arguments, with_case as with_one_case, with_cases as with_all_cases, no_cases, row_call as row_called, date_call as date_called};
 
 use crate::calls::{Part, between_parts, first_there, membership, of_one, of_three, of_two, operated, pasted};
 use crate::cases::{Cases, case_call};
@@ -135,18 +135,61 @@ fn three_parts(alloc: Global, at: u32, function: ExprFn, a: Part, b: Part, c: Pa
     }
 }
 
-#[tactic(auto, unfolding(crate::specs::Terms::date_call))]
-/// `as.Date` of a text as it is written.
-fn date_call(alloc: Global, at: u32, parts: Seq<Part>) -> Res<Piece, TermFault>
-    ensures { Gives result (date_called at parts) }
+/// The day of the one text in the parentheses of a call.
+fn only_day(parts: &[Part]) -> Option<Option<i32>>
+    ensures { result ≡ day_in parts.now }
 {
-    let day = match Parts::of(alloc, parts)? {
-        Parts::One(a) => a.1.day(),
-        _ => None,
-    };
+    match parts {
+        [a] => a.1.day(),
+        [] => None,
+        [_, _, ..] => None,
+    }
+}
+
+#[tactic(auto, unfolding(crate::specs::Terms::day_literal))]
+/// A day as a literal, and wrong arguments where there is none.
+fn day_literal(at: u32, day: Option<Option<i32>>) -> Res<Piece, TermFault>
+    ensures { Gives result (day_made at day) }
+{
     match day {
         Some(Some(day)) => Ok(Piece::Literal(Value::Day(day), ColType::Date)),
-        _ => Err(fault(TermFaultKind::WrongArguments, at)),
+        Some(None) => Err(fault(TermFaultKind::WrongArguments, at)),
+        None => Err(fault(TermFaultKind::WrongArguments, at)),
+    }
+}
+
+/// `as.Date` of a text as it is written.
+fn date_call(at: u32, parts: &[Part]) -> Res<Piece, TermFault>
+    ensures { Gives result (date_called at parts.now) }
+{
+    day_literal(at, only_day(parts))
+}
+
+fn is_membership(oper: Oper) -> bool
+    ensures { result ≡ membership_named oper }
+{
+    match oper {
+        Oper::IsIn => true,
+        _ => false,
+    }
+}
+
+fn is_tilde(oper: Oper) -> bool
+    ensures { result ≡ tilde_named oper }
+{
+    match oper {
+        Oper::Tilde => true,
+        _ => false,
+    }
+}
+
+/// An operator between two parts, where there is such an operator on values.
+fn between_two(alloc: Global, at: u32, oper: Oper, first: Part, second: Part) -> Res<Piece, TermFault>
+    ensures { Gives result (between_made at (operator_named oper) first second) }
+{
+    match operator(oper) {
+        Some(function) => operated(alloc, at, function, first, second),
+        None => Err(fault(TermFaultKind::WrongArguments, at)),
     }
 }
 
@@ -174,7 +217,8 @@ pub fn piece_of(alloc: Global, schema: &Schema, term: &Term) -> Res<Piece, TermF
             signed(alloc, at, *oper, operand)
         }
         TermKind::Binary(oper, left, right) => {
-            binary(alloc, schema, at, *oper, left.get(), right.get())
+            let first = part_of(alloc, schema, left.get())?;
+            behind_left(alloc, schema, at, *oper, first, right.get())
         }
         TermKind::Call(call) => call_piece(alloc, schema, call),
         TermKind::Pipe(_) => Err(fault(TermFaultKind::WrongArguments, at)),
@@ -191,20 +235,16 @@ fn part_of(alloc: Global, schema: &Schema, term: &Term) -> Res<Part, TermFault>
 }
 
 #[cycle(reading)]
-/// An operator between two terms.
-fn binary(alloc: Global, schema: &Schema, at: u32, oper: Oper, left: &Term, right: &Term) -> Res<Piece, TermFault>
-    ensures { Gives result (binary_value at oper (reading schema.now left.now) (reading schema.now right.now)) }
+/// An operator between a part and the term behind it.
+fn behind_left(alloc: Global, schema: &Schema, at: u32, oper: Oper, first: Part, right: &Term) -> Res<Piece, TermFault>
+    ensures { Gives result (left_read at oper first (reading schema.now right.now)) }
 {
-    let first = part_of(alloc, schema, left)?;
-    if oper == Oper::IsIn {
+    if is_membership(oper) {
         let items = items_of(alloc, schema, right)?;
         return membership(alloc, at, first, items);
     }
     let second = part_of(alloc, schema, right)?;
-    match operator(oper) {
-        Some(function) => operated(alloc, at, function, first, second),
-        None => Err(fault(TermFaultKind::WrongArguments, at)),
-    }
+    between_two(alloc, at, oper, first, second)
 }
 
 #[cycle(reading)]
@@ -228,7 +268,7 @@ fn sides_of(alloc: Global, schema: &Schema, term: &Term) -> Res<Option<(Piece, P
     ensures { Gives result (reading schema.now term.now).sides }
 {
     if let TermKind::Binary(oper, left, right) = &term.kind {
-        if *oper == Oper::Tilde {
+        if is_tilde(*oper) {
             let condition = piece_of(alloc, schema, left.get())?;
             let value = piece_of(alloc, schema, right.get())?;
             return Ok(Some((condition, value)));
@@ -248,7 +288,7 @@ fn call_piece(alloc: Global, schema: &Schema, call: &Call) -> Res<Piece, TermFau
         Callee::Row(function) => row_call(alloc, schema, at, function, &call.args),
         Callee::AsDate => {
             let parts = plain_arguments(alloc, schema, &call.args)?;
-            date_call(alloc, at, parts)
+            date_call(at, parts.as_slice())
         }
         Callee::Grouped => Err(fault(TermFaultKind::NotBuilt, at)),
         Callee::LeftOut => refused(alloc, schema, &call.args, TermFaultKind::OutOfProfile, at),

@@ -7,8 +7,8 @@ use Rattle.term_types.proofs.terms.+reading.Given as goal
 
 abbrev pub invariant-refused-loop-arg : goal.invariant-refused-loop-arg
 invariant-refused-loop-arg l =
-    and_then (any_arguments (map (argument l.schema) l.args)) (λ (ps : List Piece). Err (record { kind = l.kind; at = l.at }))
-    ≡ and_then (any_arguments (map (argument l.schema) (drop l.arg-index l.args))) (λ (ps : List Piece). Err (record { kind = l.kind; at = l.at }))
+    and_then {B = Piece} (any_arguments (map (argument l.schema) l.args)) (λ (ps : List Piece). Err (record { kind = l.kind; at = l.at }))
+    ≡ and_then {B = Piece} (any_arguments (map (argument l.schema) (drop l.arg-index l.args))) (λ (ps : List Piece). Err (record { kind = l.kind; at = l.at }))
 
 abbrev pub invariant-plain_arguments-loop-arg : goal.invariant-plain_arguments-loop-arg
 invariant-plain_arguments-loop-arg l =
