@@ -18,7 +18,12 @@ pub type Part = (u32, Piece);
 
 #[tactic(auto, unfolding(crate::specs::Calls::call_of))]
 /// The call of a function over expressions of these types.
-pub fn call_of(at: u32, function: ExprFn, args: Seq<Expr>, kinds: &[ColType]) -> Res<Piece, TermFault>
+pub fn call_of(
+    at: u32,
+    function: ExprFn,
+    args: Seq<Expr>,
+    kinds: &[ColType],
+) -> Res<Piece, TermFault>
     ensures { Gives result (stands_at at (call_made function args kinds.now)) }
 {
     match call_type(function, kinds) {
@@ -227,7 +232,14 @@ fn within(alloc: Global, at: u32, x: Piece, a: Piece, b: Piece) -> Res<Piece, Te
 }
 
 /// Any other function of three values, as `substr(x, a, b)`.
-fn text_part(alloc: Global, at: u32, function: ExprFn, x: Piece, a: Piece, b: Piece) -> Res<Piece, TermFault>
+fn text_part(
+    alloc: Global,
+    at: u32,
+    function: ExprFn,
+    x: Piece,
+    a: Piece,
+    b: Piece,
+) -> Res<Piece, TermFault>
     ensures { Gives result (stands_at at (text_part_made function x a b)) }
 {
     let kinds = [
@@ -245,7 +257,14 @@ fn text_part(alloc: Global, at: u32, function: ExprFn, x: Piece, a: Piece, b: Pi
 }
 
 /// A function of three values.
-pub fn of_three(alloc: Global, at: u32, function: ExprFn, a: Piece, b: Piece, c: Piece) -> Res<Piece, TermFault>
+pub fn of_three(
+    alloc: Global,
+    at: u32,
+    function: ExprFn,
+    a: Piece,
+    b: Piece,
+    c: Piece,
+) -> Res<Piece, TermFault>
     ensures { Gives result (stands_at at (three_called function a b c)) }
 {
     match function {
@@ -257,7 +276,13 @@ pub fn of_three(alloc: Global, at: u32, function: ExprFn, a: Piece, b: Piece, c:
 
 #[tactic(auto, unfolding(crate::specs::Calls::over))]
 /// A function of a list of parts, of which free ones take this type.
-fn over(alloc: Global, at: u32, function: ExprFn, wanted: ColType, pieces: Seq<Piece>) -> Res<Piece, TermFault>
+fn over(
+    alloc: Global,
+    at: u32,
+    function: ExprFn,
+    wanted: ColType,
+    pieces: Seq<Piece>,
+) -> Res<Piece, TermFault>
     ensures { Gives result (stands_at at (over_all function wanted pieces)) }
 {
     let mut args = Seq::new(alloc);
@@ -291,7 +316,13 @@ fn in_list(alloc: Global, at: u32, pieces: Seq<Piece>) -> Res<Piece, TermFault>
 
 #[tactic(auto, using(crate::proofs::Choices::free_given, crate::proofs::Choices::free_faulty), unfolding(crate::specs::Calls::choice_over))]
 /// A choice among the parts of a list, by the type of the first that has one.
-fn choice_over(alloc: Global, at: u32, function: ExprFn, first: Option<ColType>, pieces: Seq<Piece>) -> Res<Piece, TermFault>
+fn choice_over(
+    alloc: Global,
+    at: u32,
+    function: ExprFn,
+    first: Option<ColType>,
+    pieces: Seq<Piece>,
+) -> Res<Piece, TermFault>
     ensures { Gives result (stands_at at (chosen_over function first pieces)) }
 {
     let made = over(alloc, at, function, needed_beside(first), pieces)?;
@@ -426,7 +457,12 @@ fn among_items(alloc: Global, at: u32, x: Part, items: Seq<Part>) -> Res<Piece, 
 
 #[tactic(auto, unfolding(crate::specs::Calls::membership))]
 /// `x %in% c(..)`
-pub fn membership(alloc: Global, at: u32, x: Part, items: Option<Seq<Part>>) -> Res<Piece, TermFault>
+pub fn membership(
+    alloc: Global,
+    at: u32,
+    x: Part,
+    items: Option<Seq<Part>>,
+) -> Res<Piece, TermFault>
     ensures { Gives result (member at x items) }
 {
     match items {

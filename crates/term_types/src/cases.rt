@@ -93,7 +93,12 @@ fn collected(alloc: Global, wanted: ColType, conditions: Seq<(Piece, Piece)>) ->
 }
 
 /// All arguments of a `case_when`.
-fn case_arguments(alloc: Global, wanted: ColType, conditions: Seq<(Piece, Piece)>, default: Option<Piece>) -> Mem<CaseCall>
+fn case_arguments(
+    alloc: Global,
+    wanted: ColType,
+    conditions: Seq<(Piece, Piece)>,
+    default: Option<Piece>,
+) -> Mem<CaseCall>
     ensures { IfOk result (λ made. made ≡ record { args = case_args wanted conditions default; kinds = case_kinds wanted conditions default; values = case_values wanted conditions default }) }
 {
     let mut made = collected(alloc, wanted, conditions)?;
@@ -105,7 +110,12 @@ fn case_arguments(alloc: Global, wanted: ColType, conditions: Seq<(Piece, Piece)
 
 #[tactic(auto, using(crate::proofs::Choices::free_given, crate::proofs::Choices::free_faulty), unfolding(crate::specs::Calls::cases_by))]
 /// A `case_when` with at least one condition, by the type of its first value that has one.
-fn case_when(alloc: Global, at: u32, conditions: Seq<(Piece, Piece)>, default: Option<Piece>) -> Res<Piece, TermFault>
+fn case_when(
+    alloc: Global,
+    at: u32,
+    conditions: Seq<(Piece, Piece)>,
+    default: Option<Piece>,
+) -> Res<Piece, TermFault>
     ensures { Gives result (stands_at at (cases_by (first_case_kind conditions default) conditions default)) }
 {
     let first = case_kind(conditions.as_slice(), &default);

@@ -12,3 +12,6 @@ mod terms;
 pub use fault::{TermFault, TermFaultKind};
 pub use piece::Piece;
 pub use terms::{expression_of, piece_of};
+
+#[cfg(test)]
+mod tests;

@@ -5,7 +5,9 @@ ghost use Rattle.term_types.specs.Parts.{parts_list};
 ghost use Rattle.term_types.specs.Calls.{function_call as functions_call, is_list_call};
 ghost use Rattle.term_types.specs.Terms.{reading, called, argument, piece as piece_read, expression as expression_read, place_of as place_named, column_at, word_piece as word_read, negative as negative_read, signed as signed_read, operator as operator_named, part, behind_left as left_read, between_two as between_made, is_membership as membership_named, is_tilde as tilde_named, only_day as day_in, day_literal as day_made, plain_arguments as plain_read, plain_argument as plain_one, any_arguments, with_case as with_one_case, with_cases as with_all_cases, no_cases, row_call as row_called, date_call as date_called};
 
-use crate::calls::{Part, between_parts, first_there, membership, of_one, of_three, of_two, operated, pasted};
+use crate::calls::{
+    Part, between_parts, first_there, membership, of_one, of_three, of_two, operated, pasted,
+};
 use crate::cases::{Cases, case_call};
 use crate::fault::{TermFault, TermFaultKind, fault};
 use crate::names::{Callee, callee_named};
@@ -98,7 +100,12 @@ fn operator(oper: Oper) -> Option<ExprFn>
 
 #[tactic(auto, unfolding(crate::specs::Calls::function_call))]
 /// A call of a row function other than `case_when`.
-fn function_call(alloc: Global, at: u32, function: ExprFn, parts: Seq<Part>) -> Res<Piece, TermFault>
+fn function_call(
+    alloc: Global,
+    at: u32,
+    function: ExprFn,
+    parts: Seq<Part>,
+) -> Res<Piece, TermFault>
     ensures { Gives result (functions_call at function parts) }
 {
     match function {
@@ -125,7 +132,14 @@ fn few_parts(alloc: Global, at: u32, function: ExprFn, parts: Parts) -> Res<Piec
 
 #[tactic(auto, unfolding(crate::specs::Calls::function_call))]
 /// A call of a function of three values.
-fn three_parts(alloc: Global, at: u32, function: ExprFn, a: Part, b: Part, c: Part) -> Res<Piece, TermFault>
+fn three_parts(
+    alloc: Global,
+    at: u32,
+    function: ExprFn,
+    a: Part,
+    b: Part,
+    c: Part,
+) -> Res<Piece, TermFault>
     requires { is_list_call function ≡ false }
     ensures { Gives result (functions_call at function (a ∷ b ∷ c ∷ [])) }
 {
@@ -184,7 +198,13 @@ fn is_tilde(oper: Oper) -> bool
 }
 
 /// An operator between two parts, where there is such an operator on values.
-fn between_two(alloc: Global, at: u32, oper: Oper, first: Part, second: Part) -> Res<Piece, TermFault>
+fn between_two(
+    alloc: Global,
+    at: u32,
+    oper: Oper,
+    first: Part,
+    second: Part,
+) -> Res<Piece, TermFault>
     ensures { Gives result (between_made at (operator_named oper) first second) }
 {
     match operator(oper) {
@@ -236,7 +256,14 @@ fn part_of(alloc: Global, schema: &Schema, term: &Term) -> Res<Part, TermFault>
 
 #[cycle(reading)]
 /// An operator between a part and the term behind it.
-fn behind_left(alloc: Global, schema: &Schema, at: u32, oper: Oper, first: Part, right: &Term) -> Res<Piece, TermFault>
+fn behind_left(
+    alloc: Global,
+    schema: &Schema,
+    at: u32,
+    oper: Oper,
+    first: Part,
+    right: &Term,
+) -> Res<Piece, TermFault>
     ensures { Gives result (left_read at oper first (reading schema.now right.now)) }
 {
     if is_membership(oper) {
@@ -292,13 +319,25 @@ fn call_piece(alloc: Global, schema: &Schema, call: &Call) -> Res<Piece, TermFau
         }
         Callee::Grouped => Err(fault(TermFaultKind::NotBuilt, at)),
         Callee::LeftOut => refused(alloc, schema, &call.args, TermFaultKind::OutOfProfile, at),
-        Callee::Unknown => refused(alloc, schema, &call.args, TermFaultKind::UnknownFunction, at),
+        Callee::Unknown => refused(
+            alloc,
+            schema,
+            &call.args,
+            TermFaultKind::UnknownFunction,
+            at,
+        ),
     }
 }
 
 #[cycle(reading)]
 /// A call of a row function.
-fn row_call(alloc: Global, schema: &Schema, at: u32, function: ExprFn, args: &Seq<Arg>) -> Res<Piece, TermFault>
+fn row_call(
+    alloc: Global,
+    schema: &Schema,
+    at: u32,
+    function: ExprFn,
+    args: &Seq<Arg>,
+) -> Res<Piece, TermFault>
     ensures { Gives result (row_called at function (map (argument schema.now) args.now)) }
 {
     match function {
@@ -315,7 +354,13 @@ fn row_call(alloc: Global, schema: &Schema, at: u32, function: ExprFn, args: &Se
 
 #[cycle(reading)]
 /// The fault of a call that is refused, behind those of its arguments.
-fn refused(alloc: Global, schema: &Schema, args: &Seq<Arg>, kind: TermFaultKind, at: u32) -> Res<Piece, TermFault>
+fn refused(
+    alloc: Global,
+    schema: &Schema,
+    args: &Seq<Arg>,
+    kind: TermFaultKind,
+    at: u32,
+) -> Res<Piece, TermFault>
     ensures { Gives result (and_then (any_arguments (map (argument schema.now) args.now)) (λ ps. Err (record { kind = kind; at = at }))) }
 {
     for arg in args.as_slice() {

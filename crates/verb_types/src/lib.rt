@@ -1,13 +1,8 @@
-// A library with one function.
+//! The check of verbs: a call of a verb over a table's shape as a checked verb with the shape after it, or its first fault.
 #![tactic(auto)]
 
-ghost use Rattle.std.specs.Prelude.{◌≡◌};
-ghost use Rattle.verb_types.specs.Echo.{echo_of};
+mod fault;
+mod names;
 
-// The `ensures` clause is the contract: what `echo` returns is `echo_of` of its argument, a definition
-// in `specs/Echo.antt`, which a caller's clause can cite too.
-pub fn echo(x: usize) -> usize
-    ensures { result ≡ echo_of x }
-{
-    x
-}
+pub use fault::{VerbFault, VerbKind};
+pub use names::{Known, VerbName};
