@@ -1,2 +1,0 @@
-//! Selections of columns, as tidyselect's: which columns a list of selectors chooses.
-#![tactic(auto)]

@@ -1,5 +1,0 @@
-pub mod Arguments
-pub mod Checks
-pub mod Forms
-pub mod Steps
-pub mod VerbNames
