@@ -1,3 +1,4 @@
+pub mod CaseTypes
 pub mod ListSteps
 pub mod TypeSteps
 pub mod TypedOperators

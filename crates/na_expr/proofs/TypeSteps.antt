@@ -31,11 +31,11 @@ same_rule : {S : Type 0} (p q : List ColType → S) → ((ts : List ColType) →
 same_rule p q h (Ok ts) = ap (λ x. Ok x) (h ts)
 same_rule p q h (Err e) = refl
 
-and_assoc : (a b c : Bool) → (a && (b && c)) ≡ ((a && b) && c)
+pub and_assoc : (a b c : Bool) → (a && (b && c)) ≡ ((a && b) && c)
 and_assoc true b c = refl
 and_assoc false b c = refl
 
-and_true : (a : Bool) → (a && true) ≡ a
+pub and_true : (a : Bool) → (a && true) ≡ a
 and_true true = refl
 and_true false = refl
 
@@ -80,7 +80,7 @@ case_decides kind (Ok a ∷ Err e ∷ rs) truths values l h = cc
 case_decides kind (Ok a ∷ Ok b ∷ rs) truths values l h = two_parts kind a b (all_of rs) truths values h
 
 -- a function of at most three values takes no four or more
-four_types : (f : ExprFn) → takes_list f ≡ false → (a b c d : ColType) (ts : List ColType) → takes f (a ∷ b ∷ c ∷ d ∷ ts) ≡ Err WrongArguments
+pub four_types : (f : ExprFn) → takes_list f ≡ false → (a b c d : ColType) (ts : List ColType) → takes f (a ∷ b ∷ c ∷ d ∷ ts) ≡ Err WrongArguments
 four_types call.Neg p a b c d ts = refl
 four_types call.Add p a b c d ts = refl
 four_types call.Sub p a b c d ts = refl

@@ -34,7 +34,7 @@ fn joined(a: ColType, b: ColType) -> Option<ColType>
 }
 
 /// The type on which those so far and one more agree.
-fn join(so_far: Option<Option<ColType>>, kind: ColType) -> Option<Option<ColType>>
+pub fn join(so_far: Option<Option<ColType>>, kind: ColType) -> Option<Option<ColType>>
     ensures { result ≡ joining so_far kind }
 {
     match so_far {
@@ -72,7 +72,7 @@ fn when(kind: ColType, wanted: ColType, given: ColType) -> Option<ColType>
 }
 
 /// The type of a function of one value.
-fn one_type(function: ExprFn, a: ColType) -> Result<ColType, TypeFault>
+pub fn one_type(function: ExprFn, a: ColType) -> Result<ColType, TypeFault>
     requires { is_list_function function ≡ false }
     ensures { result ≡ takes function (a ∷ []) }
 {
@@ -109,7 +109,7 @@ fn numbers(a: ColType, b: ColType) -> Option<ColType>
 }
 
 /// The type of a function of two values.
-fn two_type(function: ExprFn, a: ColType, b: ColType) -> Result<ColType, TypeFault>
+pub fn two_type(function: ExprFn, a: ColType, b: ColType) -> Result<ColType, TypeFault>
     requires { is_list_function function ≡ false }
     ensures { result ≡ takes function (a ∷ b ∷ []) }
 {
@@ -144,7 +144,7 @@ fn two_type(function: ExprFn, a: ColType, b: ColType) -> Result<ColType, TypeFau
 }
 
 /// A truth value, where there is a type to compare.
-fn test_of(kind: Option<ColType>) -> Result<ColType, TypeFault>
+pub fn test_of(kind: Option<ColType>) -> Result<ColType, TypeFault>
     ensures { result ≡ or_wrong_type (then_test kind) }
 {
     match kind {
@@ -154,7 +154,7 @@ fn test_of(kind: Option<ColType>) -> Result<ColType, TypeFault>
 }
 
 /// The type that a choice carries, where its values agree on it.
-fn carried(kind: ColType, values: Option<ColType>) -> Result<ColType, TypeFault>
+pub fn carried(kind: ColType, values: Option<ColType>) -> Result<ColType, TypeFault>
     ensures { result ≡ or_wrong_type (carried_type kind values) }
 {
     match values {
@@ -164,7 +164,7 @@ fn carried(kind: ColType, values: Option<ColType>) -> Result<ColType, TypeFault>
 }
 
 /// The type of a function of three values.
-fn three_type(function: ExprFn, a: ColType, b: ColType, c: ColType) -> Result<ColType, TypeFault>
+pub fn three_type(function: ExprFn, a: ColType, b: ColType, c: ColType) -> Result<ColType, TypeFault>
     requires { is_list_function function ≡ false }
     ensures { result ≡ takes function (a ∷ b ∷ c ∷ []) }
 {
@@ -282,7 +282,7 @@ fn agreement(args: &[Expr], schema: &Schema) -> Result<Option<Option<ColType>>, 
 }
 
 /// Whether the conditions so far and one more are truth values.
-fn still_truths(truths: bool, kind: ColType) -> bool
+pub fn still_truths(truths: bool, kind: ColType) -> bool
     ensures { result ≡ (truths && same_kind kind ColType.Lgl) }
 {
     truths && matches!(kind, ColType::Lgl)
@@ -308,7 +308,7 @@ fn case_parts(args: &[Expr], schema: &Schema) -> Result<(bool, Option<Option<Col
 }
 
 /// The type of a `case_when` by its parts.
-fn outcome(
+pub fn outcome(
     carries: ColType,
     truths: bool,
     values: Option<Option<ColType>>,
