@@ -12,11 +12,15 @@ pub returns-then-len-columns-clause-value : goal.returns-then-len-columns-clause
 returns-then-len-columns-clause-value c =
     let texts = fields_of c.args.fields.now in
     let columns = c.args.columns.now in
-    rw c.at.ensures (ragged_row columns c.args.number texts (ne_eqb (length texts) (length columns) (λ e. c.if-len-columns.true (c.len.ensures ∙ e))))
+    let uneven = c.if-len-columns.true in
+    let counted = c.len.ensures in
+    rw c.at.ensures (ragged_row columns c.args.number texts (ne_eqb (length texts) (length columns) (λ e. omega arith)))
 
 pub loop-place-init : goal.loop-place-init
 loop-place-init c =
-    let even = even_row c.args.columns.now c.args.number (fields_of c.args.fields.now) (sym c.len.ensures ∙ c.if-len-columns.false) in
+    let passed = c.if-len-columns.false in
+    let counted = c.len.ensures in
+    let even = even_row c.args.columns.now c.args.number (fields_of c.args.fields.now) (omega arith) in
     rw c.in_ok-values.ensures.items (after-nil _ ∙ sym even)
 
 pub unreachable-requires : goal.unreachable-requires
