@@ -19,6 +19,3 @@ pub use pivot::{PivotFault, PivotSpec};
 pub use shape::Shape;
 pub use suiting::{are_groups, fits, suits, writes_group};
 pub use verb::Verb;
-
-#[cfg(test)]
-mod tests;

@@ -9,6 +9,3 @@ mod run;
 
 pub use laws::verbs_keep_sameness;
 pub use run::run_verb;
-
-#[cfg(test)]
-mod tests;
