@@ -150,263 +150,281 @@ fn expect<R: Abort>(
     Ok(())
 }
 
-fn int(number: i64) -> Expr {
-    Expr::Lit(Value::Int(number), ColType::Int)
+/// The function of a word, and how many values it takes.
+fn function_named(word: &str) -> Option<(ExprFn, usize)> {
+    match word {
+        "gt" => Some((ExprFn::Gt, 2)),
+        "lt" => Some((ExprFn::Lt, 2)),
+        "or" => Some((ExprFn::Or, 2)),
+        "and" => Some((ExprFn::And, 2)),
+        "add" => Some((ExprFn::Add, 2)),
+        "div" => Some((ExprFn::Div, 2)),
+        "mod" => Some((ExprFn::Mod, 2)),
+        "floor_div" => Some((ExprFn::FloorDiv, 2)),
+        "in" => Some((ExprFn::IsIn, 3)),
+        "not" => Some((ExprFn::Not, 1)),
+        "is_na" => Some((ExprFn::IsNa, 1)),
+        "as_dec" => Some((ExprFn::AsNumeric, 1)),
+        _ => None,
+    }
 }
 
-fn missing(kind: ColType) -> Expr {
-    Expr::Lit(Value::Missing, kind)
+/// A column behind `#`, `NA` of lgl, `NAi` of int, or a whole number.
+fn operand(word: &str) -> Expr {
+    match (word, word.strip_prefix("#")) {
+        ("NA", _) => Expr::Lit(Value::Missing, ColType::Lgl),
+        ("NAi", _) => Expr::Lit(Value::Missing, ColType::Int),
+        (_, Some(place)) => Expr::Col(place.parse::<u32>().unwrap_or(0)),
+        _ => Expr::Lit(Value::Int(word.parse::<i64>().unwrap_or(0)), ColType::Int),
+    }
 }
 
-fn one(alloc: Global, function: ExprFn, a: Expr) -> Mem<Expr> {
+/// A call on the last so many values.
+fn call(alloc: Global, function: ExprFn, count: usize, stack: &mut Seq<Expr>) -> Mem<Expr> {
     let mut args = Seq::new(alloc);
-    args.push(a)?;
-    Ok(Expr::Call(function, args))
-}
-
-fn two(alloc: Global, function: ExprFn, a: Expr, b: Expr) -> Mem<Expr> {
-    let mut args = Seq::new(alloc);
-    args.push(a)?;
-    args.push(b)?;
-    Ok(Expr::Call(function, args))
-}
-
-fn filter(alloc: Global, conditions: [Option<Expr>; 2]) -> Mem<Verb> {
-    let mut parts = Seq::new(alloc);
-    for value in conditions {
-        if let Some(value) = value {
-            parts.push(Part {
-                calls: Seq::new(alloc),
-                value,
-            })?;
+    for _ in 0..count {
+        if let Some(arg) = stack.pop() {
+            args.push(arg)?;
         }
     }
-    Ok(Verb::Filter {
-        by: Seq::new(alloc),
-        conditions: parts,
+    let mut args = args.into_vec();
+    args.reverse();
+    Ok(Expr::Call(function, Seq::of(args)))
+}
+
+/// An expression whose functions stand behind their values.
+fn part_of(alloc: Global, text: &str) -> Mem<Part> {
+    let mut stack = Seq::new(alloc);
+    for word in text.split_whitespace() {
+        let made = match function_named(word) {
+            Some((function, count)) => call(alloc, function, count, &mut stack)?,
+            None => operand(word),
+        };
+        stack.push(made)?;
+    }
+    Ok(Part {
+        calls: Seq::new(alloc),
+        value: stack.pop().unwrap_or(Expr::Col(99)),
     })
 }
 
-fn columns(alloc: Global, names: &[(u32, &str)]) -> Mem<Seq<(u32, Text)>> {
-    let mut made = Seq::new(alloc);
-    for (at, name) in names {
-        made.push((*at, Text::of(alloc, name)?))?;
+fn conditions_of(alloc: Global, text: &str) -> Mem<Seq<Part>> {
+    let mut parts = Seq::new(alloc);
+    for part in text.split(';') {
+        if !part.is_empty() {
+            parts.push(part_of(alloc, part)?)?;
+        }
     }
-    Ok(made)
+    Ok(parts)
 }
 
-/// Adds a value to a mutate's list.
-fn give(alloc: Global, values: &mut Seq<(Text, Part)>, name: &str, value: Expr) -> Mem<()> {
-    let part = Part {
-        calls: Seq::new(alloc),
-        value,
-    };
-    values.push((Text::of(alloc, name)?, part))
+fn values_of(alloc: Global, text: &str) -> Mem<Seq<(Text, Part)>> {
+    let mut values = Seq::new(alloc);
+    for value in text.split(';') {
+        let (name, part) = value.split_once('=').unwrap_or((value, ""));
+        values.push((Text::of(alloc, name)?, part_of(alloc, part)?))?;
+    }
+    Ok(values)
+}
+
+fn places_of(alloc: Global, text: &str) -> Mem<Seq<u32>> {
+    let mut places = Seq::new(alloc);
+    for word in text.split_whitespace() {
+        places.push(word.parse::<u32>().unwrap_or(99))?;
+    }
+    Ok(places)
+}
+
+fn columns_of(alloc: Global, text: &str) -> Mem<Seq<(u32, Text)>> {
+    let mut columns = Seq::new(alloc);
+    for word in text.split_whitespace() {
+        let (at, name) = word.split_once(':').unwrap_or((word, ""));
+        columns.push((at.parse::<u32>().unwrap_or(99), Text::of(alloc, name)?))?;
+    }
+    Ok(columns)
+}
+
+fn cells_of(alloc: Global, text: &str, kind: ColType) -> Mem<Seq<(u32, Value)>> {
+    let mut cells = Seq::new(alloc);
+    for word in text.split_whitespace() {
+        let (at, value) = word.split_once(':').unwrap_or((word, ""));
+        cells.push((
+            at.parse::<u32>().unwrap_or(99),
+            value_of(alloc, kind, value)?,
+        ))?;
+    }
+    Ok(cells)
+}
+
+/// A verb by its name, the places that group it, and its arguments.
+fn verb_of(alloc: Global, name: &str, by: &str, args: &str) -> Mem<Verb> {
+    let by = places_of(alloc, by)?;
+    match name {
+        "filter" => Ok(Verb::Filter {
+            by,
+            conditions: conditions_of(alloc, args)?,
+        }),
+        "mutate" => Ok(Verb::Mutate {
+            by,
+            values: values_of(alloc, args)?,
+        }),
+        "select" => Ok(Verb::Select(columns_of(alloc, args)?)),
+        "rename" => Ok(Verb::Rename(columns_of(alloc, args)?)),
+        "relocate" => Ok(Verb::Relocate(columns_of(alloc, args)?)),
+        "group_by" => Ok(Verb::GroupBy(places_of(alloc, args)?)),
+        "ungroup" => Ok(Verb::Ungroup),
+        "drop_na" => Ok(Verb::DropNa(places_of(alloc, args)?)),
+        "replace_na" => Ok(Verb::ReplaceNa(cells_of(alloc, args, ColType::Dec)?)),
+        "replace_na_int" => Ok(Verb::ReplaceNa(cells_of(alloc, args, ColType::Int)?)),
+        _ => Ok(Verb::Head(6)),
+    }
 }
 
 const T: &str = "id:int,g:chr,x:int 1,a,10 2,b,NA 3,a,30 4,NA,5";
 
-/// Whether x is greater than a number.
-fn above(alloc: Global, number: i64) -> Mem<Expr> {
-    two(alloc, ExprFn::Gt, Expr::Col(2), int(number))
-}
+const F: &str = "id:int,x:int 1,10 2,NA 3,30 4,5";
 
-fn is_missing(alloc: Global) -> Mem<Expr> {
-    one(alloc, ExprFn::IsNa, Expr::Col(2))
-}
+const W: &str = "w:dec,g:chr 1.5,a NA,NA NA,b";
 
-/// `!(x %in% c(10, NA))`.
-fn is_other(alloc: Global) -> Mem<Expr> {
-    let mut args = Seq::new(alloc);
-    args.push(Expr::Col(2))?;
-    args.push(int(10))?;
-    args.push(missing(ColType::Int))?;
-    one(alloc, ExprFn::Not, Expr::Call(ExprFn::IsIn, args))
-}
-
-fn filter_at(alloc: Global, at: usize) -> Mem<Verb> {
-    match at {
-        0 => filter(alloc, [Some(above(alloc, 5)?), None]),
-        1 => filter(alloc, [Some(is_other(alloc)?), None]),
-        2 => filter(alloc, [Some(above(alloc, 100)?), None]),
-        3 => {
-            let or = two(alloc, ExprFn::Or, missing(ColType::Lgl), above(alloc, 5)?)?;
-            filter(alloc, [Some(or), None])
-        }
-        4 => {
-            let and = two(
-                alloc,
-                ExprFn::And,
-                is_missing(alloc)?,
-                missing(ColType::Lgl),
-            )?;
-            filter(alloc, [Some(and), None])
-        }
-        5 => filter(alloc, [None, None]),
-        _ => filter(
-            alloc,
-            [
-                Some(above(alloc, 5)?),
-                Some(two(alloc, ExprFn::Lt, Expr::Col(0), int(3))?),
-            ],
-        ),
-    }
-}
-
-/// What each of these filters keeps.
-const KEPT: [&str; 7] = [
-    "id:int,g:chr,x:int 1,a,10 3,a,30",
-    "id:int,g:chr,x:int 3,a,30 4,NA,5",
-    "id:int,g:chr,x:int",
-    "id:int,g:chr,x:int 1,a,10 3,a,30",
-    "id:int,g:chr,x:int",
-    T,
-    "id:int,g:chr,x:int 1,a,10",
-];
-
-#[test]
-fn filter_keeps_rows_on_which_conditions_are_true(rt: HostRuntime) -> Result<(), Fail> {
-    let alloc = rt.alloc();
-    for (at, wanted) in KEPT.iter().enumerate() {
-        expect(&rt, alloc, (T, ""), filter_at(alloc, at)?, (*wanted, ""))?;
-    }
-    Ok(())
-}
-
-fn mutate(alloc: Global, values: Seq<(Text, Part)>) -> Verb {
-    Verb::Mutate {
-        by: Seq::new(alloc),
-        values,
-    }
-}
-
-/// `mutate(a = 1, a = a + 1)` behind two columns.
-fn added_twice(alloc: Global) -> Mem<Verb> {
-    let mut values = Seq::new(alloc);
-    give(alloc, &mut values, "a", int(1))?;
-    give(
-        alloc,
-        &mut values,
-        "a",
-        two(alloc, ExprFn::Add, Expr::Col(2), int(1))?,
-    )?;
-    Ok(mutate(alloc, values))
-}
-
-#[test]
-fn a_value_sees_the_ones_before_it(rt: HostRuntime) -> Result<(), Fail> {
-    let alloc = rt.alloc();
-    let given = "id:int,x:int 1,10 2,NA 3,30 4,5";
-    let between = "id:int,x:int,a:int 1,10,2 2,NA,2 3,30,2 4,5,2";
-    expect(&rt, alloc, (given, ""), added_twice(alloc)?, (between, ""))?;
-    let moved = columns(alloc, &[(2, "a"), (0, "id"), (1, "x")])?;
-    let wanted = "a:int,id:int,x:int 2,1,10 2,2,NA 2,3,30 2,4,5";
-    expect(
-        &rt,
-        alloc,
-        (between, ""),
-        Verb::Relocate(moved),
-        (wanted, ""),
-    )?;
-    Ok(())
-}
-
-/// 7 %/% -2, 7 %% -2, x %% 0, 1 / 3 and 2 / 3.
-fn quotient(alloc: Global, at: usize) -> Mem<Expr> {
-    match at {
-        0 => two(
-            alloc,
-            ExprFn::FloorDiv,
-            int(7),
-            one(alloc, ExprFn::Neg, int(2))?,
-        ),
-        1 => two(alloc, ExprFn::Mod, int(7), int(-2)),
-        2 => two(alloc, ExprFn::Mod, Expr::Col(0), int(0)),
-        3 => two(alloc, ExprFn::Div, int(1), int(3)),
-        _ => two(alloc, ExprFn::Div, int(2), int(3)),
-    }
-}
-
-#[test]
-fn mutate_gives_values_in_order(rt: HostRuntime) -> Result<(), Fail> {
-    let alloc = rt.alloc();
-    let mut values = Seq::new(alloc);
-    for (at, name) in ["a", "b", "c", "d", "e"].iter().enumerate() {
-        give(alloc, &mut values, name, quotient(alloc, at)?)?;
-    }
-    let wanted = "x:int,a:int,b:int,c:int,d:dec,e:dec 5,-4,-1,NA,0.333333,0.666667";
-    expect(
-        &rt,
-        alloc,
-        ("x:int 5", ""),
-        mutate(alloc, values),
-        (wanted, ""),
-    )?;
-    Ok(())
-}
-
-/// A mutate by `g` that gives id another type.
-fn retyped(alloc: Global) -> Mem<Verb> {
-    let mut values = Seq::new(alloc);
-    give(
-        alloc,
-        &mut values,
-        "id",
-        one(alloc, ExprFn::AsNumeric, Expr::Col(0))?,
-    )?;
-    let mut by = Seq::new(alloc);
-    by.push(1)?;
-    Ok(Verb::Mutate { by, values })
-}
-
-fn places(alloc: Global, columns: &[u32]) -> Mem<Seq<u32>> {
-    Seq::of_slice(alloc, columns)
-}
-
-fn cells(alloc: Global) -> Mem<Verb> {
-    let mut cells = Seq::new(alloc);
-    cells.push((0, value_of(alloc, ColType::Dec, "7")?))?;
-    cells.push((0, value_of(alloc, ColType::Dec, "8")?))?;
-    cells.push((1, Value::Missing))?;
-    Ok(Verb::ReplaceNa(cells))
-}
-
-fn verb_at(alloc: Global, at: usize) -> Mem<Verb> {
-    match at {
-        0 => retyped(alloc),
-        1 => Ok(Verb::Select(columns(alloc, &[(1, "k"), (2, "x")])?)),
-        2 => Ok(Verb::Rename(columns(alloc, &[(0, "id"), (1, "x"), (2, "g")])?)),
-        3 => Ok(Verb::GroupBy(places(alloc, &[2])?)),
-        4 => Ok(Verb::Ungroup),
-        5 => Ok(Verb::DropNa(places(alloc, &[2])?)),
-        6 => Ok(Verb::DropNa(places(alloc, &[0, 1, 2])?)),
-        _ => cells(alloc),
-    }
-}
-
-/// A table with its groups, and the table and groups that each of these verbs gives.
-const VERBS: [(&str, &str, &str, &str); 8] = [
+/// A table with its groups, a verb with the places that group it, and the table and groups that it gives.
+const CASES: [(&str, &str, &str, &str, &str, &str, &str); 19] = [
+    (
+        T,
+        "",
+        "filter",
+        "",
+        "#2 5 gt",
+        "id:int,g:chr,x:int 1,a,10 3,a,30",
+        "",
+    ),
+    (
+        T,
+        "",
+        "filter",
+        "",
+        "#2 10 NAi in not",
+        "id:int,g:chr,x:int 3,a,30 4,NA,5",
+        "",
+    ),
+    (T, "", "filter", "", "#2 100 gt", "id:int,g:chr,x:int", ""),
+    (
+        T,
+        "",
+        "filter",
+        "",
+        "NA #2 5 gt or",
+        "id:int,g:chr,x:int 1,a,10 3,a,30",
+        "",
+    ),
+    (
+        T,
+        "",
+        "filter",
+        "",
+        "#2 is_na NA and",
+        "id:int,g:chr,x:int",
+        "",
+    ),
+    (T, "g", "filter", "1", "", T, "g"),
     (
         T,
         "g",
+        "filter",
+        "1",
+        "#2 5 gt;#0 3 lt",
+        "id:int,g:chr,x:int 1,a,10",
+        "g",
+    ),
+    (
+        F,
+        "",
+        "mutate",
+        "",
+        "a=1;a=#2 1 add",
+        "id:int,x:int,a:int 1,10,2 2,NA,2 3,30,2 4,5,2",
+        "",
+    ),
+    (
+        "id:int,x:int,a:int 1,10,2 2,NA,2 3,30,2 4,5,2",
+        "",
+        "relocate",
+        "",
+        "2:a 0:id 1:x",
+        "a:int,id:int,x:int 2,1,10 2,2,NA 2,3,30 2,4,5",
+        "",
+    ),
+    (
+        "x:int 5",
+        "",
+        "mutate",
+        "",
+        "a=7 -2 floor_div;b=7 -2 mod;c=#0 0 mod;d=1 3 div;e=2 3 div",
+        "x:int,a:int,b:int,c:int,d:dec,e:dec 5,-4,-1,NA,0.333333,0.666667",
+        "",
+    ),
+    (
+        T,
+        "g",
+        "mutate",
+        "1",
+        "id=#0 as_dec",
         "id:dec,g:chr,x:int 1,a,10 2,b,NA 3,a,30 4,NA,5",
         "g",
     ),
-    (T, "g", "k:chr,x:int a,10 b,NA a,30 NA,5", "k"),
+    (
+        T,
+        "g",
+        "select",
+        "",
+        "1:k 2:x",
+        "k:chr,x:int a,10 b,NA a,30 NA,5",
+        "k",
+    ),
     (
         T,
         "g x",
+        "rename",
+        "",
+        "0:id 1:x 2:g",
         "id:int,x:chr,g:int 1,a,10 2,b,NA 3,a,30 4,NA,5",
         "x g",
     ),
-    (T, "g", T, "x"),
-    (T, "g x", T, ""),
-    (T, "g", "id:int,g:chr,x:int 1,a,10 3,a,30 4,NA,5", "g"),
-    (T, "", "id:int,g:chr,x:int 1,a,10 3,a,30", ""),
+    (T, "g", "group_by", "", "2", T, "x"),
+    (T, "g x", "ungroup", "", "", T, ""),
     (
-        "w:dec,g:chr 1.5,a NA,NA NA,b",
+        T,
+        "g",
+        "drop_na",
         "",
+        "2",
+        "id:int,g:chr,x:int 1,a,10 3,a,30 4,NA,5",
+        "g",
+    ),
+    (
+        T,
+        "",
+        "drop_na",
+        "",
+        "0 1 2",
+        "id:int,g:chr,x:int 1,a,10 3,a,30",
+        "",
+    ),
+    (
+        W,
+        "",
+        "replace_na",
+        "",
+        "0:7 0:8 1:NA",
         "w:dec,g:chr 1.5,a 7,NA 7,b",
+        "",
+    ),
+    (
+        F,
+        "",
+        "replace_na_int",
+        "",
+        "1:0",
+        "id:int,x:int 1,10 2,0 3,30 4,5",
         "",
     ),
 ];
@@ -414,14 +432,38 @@ const VERBS: [(&str, &str, &str, &str); 8] = [
 #[test]
 fn each_verb_gives_its_table(rt: HostRuntime) -> Result<(), Fail> {
     let alloc = rt.alloc();
-    for (at, case) in VERBS.iter().enumerate() {
-        expect(
-            &rt,
-            alloc,
-            (case.0, case.1),
-            verb_at(alloc, at)?,
-            (case.2, case.3),
-        )?;
+    for (given, groups, name, by, args, wanted, left) in CASES {
+        let verb = verb_of(alloc, name, by, args)?;
+        expect(&rt, alloc, (given, groups), verb, (wanted, left))?;
+    }
+    Ok(())
+}
+
+/// A table with its groups, and a verb that doesn't suit it.
+const REFUSED: [(&str, &str, &str, &str, &str); 11] = [
+    (T, "", "filter", "", "#2"),
+    (T, "", "filter", "", "#3 is_na"),
+    (T, "g", "filter", "2", "#2 5 gt"),
+    (T, "g", "mutate", "1", "g=1"),
+    (T, "", "mutate", "", "a=#3;b=1"),
+    (T, "g", "select", "", "0:id"),
+    (T, "", "rename", "", "0:x 1:g 2:x"),
+    (T, "", "group_by", "", "0 0"),
+    (W, "", "replace_na_int", "", "0:7"),
+    (W, "w", "replace_na", "", "0:7"),
+    (T, "", "head", "", ""),
+];
+
+#[test]
+fn some_verbs_suit_no_table(rt: HostRuntime) -> Result<(), Fail> {
+    let alloc = rt.alloc();
+    for (given, groups, name, by, args) in REFUSED {
+        let verb = verb_of(alloc, name, by, args)?;
+        if let Some(x) = table_of(alloc, given, groups)? {
+            assert!(rt; after(alloc, &x, &verb)?.is_none(), "{name} {args}");
+        } else {
+            assert!(rt; false, "no table");
+        }
     }
     Ok(())
 }
