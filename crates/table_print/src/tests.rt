@@ -80,7 +80,8 @@ fn numbers(alloc: Global) -> Mem<Table> {
 fn numbers_stand_right(rt: HostRuntime) -> Result<(), Fail> {
     let t = numbers(rt.alloc())?;
     expect_csv(&rt, rt.alloc(), &t, "id:int,g:chr,x:int\n1,a,10\n3,a,30\n")?;
-    let wanted = "# 2 rows, 3 columns\n   id  g          x\n<int>  <chr>  <int>\n    1  a         10\n    3  a         30\n";
+    let wanted =
+        "# 2 rows, 3 columns\n   id  g          x\n<int>  <chr>  <int>\n    1  a         10\n    3  a         30\n";
     expect_aligned(&rt, rt.alloc(), &t, wanted)?;
     Ok(())
 }
@@ -104,8 +105,14 @@ fn wide(alloc: Global) -> Mem<Table> {
 #[test]
 fn widths_count_code_points(rt: HostRuntime) -> Result<(), Fail> {
     let t = wide(rt.alloc())?;
-    expect_csv(&rt, rt.alloc(), &t, "w:chr,n:dec\n日本語の表示,1.5\nx\ty\u{7f},NA\n")?;
-    let wanted = "# 2 rows, 2 columns\nw           n\n<chr>   <dec>\n日本語の表示    1.5\nx?y?       NA\n";
+    expect_csv(
+        &rt,
+        rt.alloc(),
+        &t,
+        "w:chr,n:dec\n日本語の表示,1.5\nx\ty\u{7f},NA\n",
+    )?;
+    let wanted =
+        "# 2 rows, 2 columns\nw           n\n<chr>   <dec>\n日本語の表示    1.5\nx?y?       NA\n";
     expect_aligned(&rt, rt.alloc(), &t, wanted)?;
     Ok(())
 }
@@ -120,7 +127,12 @@ fn grouped(alloc: Global) -> Mem<Table> {
     groups.push(Text::of(alloc, "a\tb")?)?;
     groups.push(Text::of(alloc, "f")?)?;
     let mut rows = Seq::new(alloc);
-    rows.push(triple(alloc, text(alloc, "x")?, Value::Day(19_782), Value::Lgl(true))?)?;
+    rows.push(triple(
+        alloc,
+        text(alloc, "x")?,
+        Value::Day(19_782),
+        Value::Lgl(true),
+    )?)?;
     rows.push(triple(alloc, Value::Missing, Value::Missing, Value::Missing)?)?;
     Ok(Table {
         schema,
@@ -133,8 +145,14 @@ fn grouped(alloc: Global) -> Mem<Table> {
 #[test]
 fn groups_are_named(rt: HostRuntime) -> Result<(), Fail> {
     let t = grouped(rt.alloc())?;
-    expect_csv(&rt, rt.alloc(), &t, "a\tb:chr,d:date,f:lgl\nx,2024-02-29,TRUE\nNA,NA,NA\n")?;
-    let wanted = "# 2 rows, 3 columns\n# Groups: a\tb, f\na?b    d           f    \n<chr>  <date>      <lgl>\nx      2024-02-29  TRUE \nNA     NA          NA   \n";
+    expect_csv(
+        &rt,
+        rt.alloc(),
+        &t,
+        "a\tb:chr,d:date,f:lgl\nx,2024-02-29,TRUE\nNA,NA,NA\n",
+    )?;
+    let wanted =
+        "# 2 rows, 3 columns\n# Groups: a\tb, f\na?b    d           f    \n<chr>  <date>      <lgl>\nx      2024-02-29  TRUE \nNA     NA          NA   \n";
     expect_aligned(&rt, rt.alloc(), &t, wanted)?;
     Ok(())
 }
@@ -184,7 +202,12 @@ fn lone(alloc: Global) -> Mem<Table> {
 fn a_lone_empty_text_is_two_quotes(rt: HostRuntime) -> Result<(), Fail> {
     let t = lone(rt.alloc())?;
     expect_csv(&rt, rt.alloc(), &t, "a:chr\n\"\"\n")?;
-    expect_aligned(&rt, rt.alloc(), &t, "# 1 rows, 1 columns\na    \n<chr>\n     \n")?;
+    expect_aligned(
+        &rt,
+        rt.alloc(),
+        &t,
+        "# 1 rows, 1 columns\na    \n<chr>\n     \n",
+    )?;
     Ok(())
 }
 
@@ -212,7 +235,12 @@ fn no_sums(alloc: Global) -> Mem<Table> {
 #[test]
 fn no_rows(rt: HostRuntime) -> Result<(), Fail> {
     let t = no_sums(rt.alloc())?;
-    expect_csv(&rt, rt.alloc(), &t, "region:chr,month:int,n:int,total:dec\n")?;
+    expect_csv(
+        &rt,
+        rt.alloc(),
+        &t,
+        "region:chr,month:int,n:int,total:dec\n",
+    )?;
     let wanted = "# 0 rows, 4 columns\nregion  month      n  total\n<chr>   <int>  <int>  <dec>\n";
     expect_aligned(&rt, rt.alloc(), &t, wanted)?;
     Ok(())
@@ -248,7 +276,8 @@ fn sums(alloc: Global) -> Mem<Table> {
 #[test]
 fn sums_stand_right(rt: HostRuntime) -> Result<(), Fail> {
     let t = sums(rt.alloc())?;
-    let wanted = "# 6 rows, 4 columns\nregion  month      n  total\n<chr>   <int>  <int>  <dec>\nnorth       2    750   4525\nnorth       3    750   4475\nsouth       3    400   2600\nsouth       2    350   2275\nNA          2    350   2125\nNA          3    400   2000\n";
+    let wanted =
+        "# 6 rows, 4 columns\nregion  month      n  total\n<chr>   <int>  <int>  <dec>\nnorth       2    750   4525\nnorth       3    750   4475\nsouth       3    400   2600\nsouth       2    350   2275\nNA          2    350   2125\nNA          3    400   2000\n";
     expect_aligned(&rt, rt.alloc(), &t, wanted)?;
     Ok(())
 }

@@ -12,8 +12,8 @@ loop-field-init c = record { cells = c.clear.ensures.fields; text = subst AllTex
 pub loop-field-preserved : goal.loop-field-preserved
 loop-field-preserved c = record {
   cells =
-  c.in_ok-push_field.ensures.fields
-  ∙ ap₂ (λ (cells : List (List ℕ)) (cell : List ℕ). cells ++ cell ∷ []) c.loop-field.invariant.cells (c.as_str.ensures.value ∙ c.in_ok-heading.ensures ∙ ap heading c.field-item.is)
-  ∙ sym (map_more heading c.args.fields.now c.loop-field.field-index c.field-item.result c.loop-field-test.true);
+      c.in_ok-push_field.ensures.fields
+      ∙ ap₂ (λ (cells : List (List ℕ)) (cell : List ℕ). cells ++ cell ∷ []) c.loop-field.invariant.cells (c.as_str.ensures.value ∙ c.in_ok-heading.ensures ∙ ap heading c.field-item.is)
+      ∙ sym (map_more heading c.args.fields.now c.loop-field.field-index c.field-item.result c.loop-field-test.true);
   text = subst AllText (sym c.in_ok-push_field.ensures.fields) (text-more (fields_of c.loop-field.line) c.as_str.result.now c.loop-field.invariant.text c.as_str.utf8);
 }

@@ -20,5 +20,5 @@ returns c =
     let rest = flat_map (λ row. csv_line (written_row row)) c.args.t.now.rows in
     IfOk-weaker c.written_text.result (λ text. HasWritten c.put_rows.new.writer text) (λ text. text ≡ csv_text c.args.t.now)
     (λ text got.
-      some-same text (csv_line (fields_of c.fill_headings.new.line) ++ rest) (sym got.bytes ∙ has.bytes) ∙ ap (λ (f : List (List ℕ)). csv_line f ++ rest) first)
+    some-same text (csv_line (fields_of c.fill_headings.new.line) ++ rest) (sym got.bytes ∙ has.bytes) ∙ ap (λ (f : List (List ℕ)). csv_line f ++ rest) first)
     c.written_text.ensures
