@@ -1,5 +1,5 @@
 -- The widths of columns, line by line and as the greatest of each column.
-use Rattle.std.proofs.Common.{◌≡◌, ℕ, zero, suc, ◌+◌, ◌<◌, ◌++◌, List, [], ◌∷◌, length, get_or, set, map, take, drop, refl, sym, ◌∙◌, ap, ap₂, arith, add-one, append_assoc, drop-cons, true}
+use Rattle.std.proofs.Common.{◌≡◌, ℕ, zero, suc, ◌+◌, ◌<◌, ◌++◌, List, [], ◌∷◌, length, get_or, set, map, drop, refl, sym, ◌∙◌, ap, arith, append_assoc, drop-cons, true}
 use Rattle.std.proofs.lemmas.List.{length-map, append-nil}
 use Rattle.scalar_fns.specs.Written.{written}
 use Rattle.std.specs.Prelude.{max}

@@ -1,13 +1,8 @@
 -- One more line, cell or name.
-use Rattle.std.proofs.Common.{◌≡◌, ℕ, zero, suc, ◌+◌, ◌<◌, ◌++◌, List, [], ◌∷◌, length, get_or, map, take, drop, Option, Some, None, refl, sym, ◌∙◌, ap, ap₂, arith, add-one, append_assoc, drop-cons}
-use Rattle.std.specs.Prelude.{IsUtf8, Vec}
+use Rattle.std.proofs.Common.{◌≡◌, ℕ, ◌+◌, ◌<◌, ◌++◌, List, [], ◌∷◌, length, get_or, map, take, drop, Some, refl, sym, ◌∙◌, ap, ap₂, arith, add-one, append_assoc, drop-cons}
 use Rattle.std.specs.List.{flat_map}
-use Rattle.std.specs.Io.KnownBytes.{Appends}
-use Rattle.std.specs.declared.alloc.Global.{Global}
 use Rattle.std.proofs.lemmas.List.{take_more, append-nil}
 use Rattle.std.proofs.lemmas.Grind.{flat_map-append}
-use Rattle.csv.specs.declared.writer.Writer.{Writer}
-use Rattle.csv.specs.Writing.{default_writer, text_written}
 use Rattle.table_print.specs.declared.column.Column.{Column}
 use Rattle.table_print.specs.Aligned.{gap_at, padded, cells_from, comma_at, names_from}
 

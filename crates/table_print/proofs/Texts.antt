@@ -1,6 +1,6 @@
 -- Texts stay texts where quotes are put into them, and where characters are shown as question marks.
-use Rattle.std.proofs.Common.{◌≡◌, ◌==◌, ℕ, zero, suc, ◌<◌, ◌≤◌, ◌++◌, Bool, true, false, List, [], ◌∷◌, length, get_or, map, inl, inr, refl, sym, ◌∙◌, ap, arith, lit<}
-use Rattle.std.specs.Prelude.{IsUtf8, nat_lt, ◌&&◌, ◌||◌, if◌then◌else◌}
+use Rattle.std.proofs.Common.{◌≡◌, ◌==◌, ℕ, suc, ◌<◌, ◌++◌, Bool, true, false, List, [], ◌∷◌, length, get_or, inl, inr, refl, sym, ◌∙◌, ap, arith, lit<}
+use Rattle.std.specs.Prelude.{IsUtf8, ◌&&◌, if◌then◌else◌}
 use Rattle.std.specs.List.{list_any}
 use Rattle.std.proofs.Math.Utf8.{scalar, scalars, encode, encodes}
 use Rattle.std.proofs.lemmas.Str.{IsUtf8-append, inside_one, encode_ascii, encodes-append}
@@ -8,7 +8,7 @@ use Rattle.std.proofs.lemmas.Bool.{cases_Bool, ne_eqb, eqb-true}
 use Rattle.std.proofs.lemmas.Bool.Decides.{nat_tests}
 use Rattle.std.proofs.lemmas.List.{map-append, append-nil}
 use Rattle.csv.specs.Records.{AllText}
-use Rattle.csv.specs.Writing.{default_writer, escaped, quoted, needs_quotes, field_text, fields_text, row_body, row_text, is_blank}
+use Rattle.csv.specs.Writing.{default_writer, escaped, quoted, needs_quotes, field_text, fields_text, row_body, is_blank}
 use Rattle.csv.proofs.WriteFacts.{escaped-append}
 use Rattle.table_print.specs.Aligned.{is_hidden, shown_byte, shown}
 use Rattle.table_print.specs.CsvText.{csv_line}

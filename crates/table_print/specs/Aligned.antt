@@ -1,7 +1,6 @@
 -- The text of a table with aligned columns.
 use Rattle.std.specs.Prelude.{ℕ, zero, suc, ◌-◌, ◌==◌, nat_lt, max, Bool, true, false, ◌||◌, if◌then◌else◌, List, [], ◌∷◌, ◌++◌, map, length, replicate, slice_index_or, codes, decimal}
 use Rattle.std.specs.List.{flat_map}
-use Rattle.scalar_value.specs.declared.value.Value.{Value}
 use Rattle.scalar_value.specs.declared.value.ColType.{ColType}
 use Rattle.scalar_value.specs.declared.value.ColType.TheVariants as kind
 use Rattle.scalar_fns.specs.Texts.{char_count}

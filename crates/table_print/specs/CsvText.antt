@@ -2,8 +2,6 @@
 use Rattle.std.specs.Prelude.{ℕ, List, map, ◌++◌}
 use Rattle.std.specs.List.{flat_map}
 use Rattle.csv.specs.Writing.{row_text, default_writer}
-use Rattle.scalar_value.specs.declared.value.Value.{Value}
-use Rattle.row_table.specs.declared.field.Field.{Field}
 use Rattle.row_table.specs.Tables.{TableValue}
 use Rattle.table_print.specs.Cells.{heading, written_row}
 

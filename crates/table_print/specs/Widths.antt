@@ -1,5 +1,5 @@
 -- The columns as one line of cells after another is seen.
-use Rattle.std.specs.Prelude.{ℕ, max, List, [], ◌∷◌, map}
+use Rattle.std.specs.Prelude.{ℕ, max, List, [], ◌∷◌}
 use Rattle.scalar_fns.specs.Texts.{char_count}
 use Rattle.row_table.specs.declared.field.Field.{Field}
 use Rattle.table_print.specs.declared.column.Column.{Column}

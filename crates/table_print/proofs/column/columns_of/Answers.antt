@@ -1,4 +1,4 @@
-use Rattle.std.proofs.Common.{◌≡◌, ◌++◌, ℕ, List, length, map, take, drop, sym, ◌∙◌, ap, subst, arith, IsTrue}
+use Rattle.std.proofs.Common.{◌≡◌, ◌++◌, ℕ, List, length, map, take, drop, ◌∙◌, ap, subst, arith, IsTrue}
 use Rattle.std.proofs.Math.Seq.{take-append_seam}
 use Rattle.row_table.specs.Tables.{TableValue, fit_rows}
 use Rattle.table_print.specs.declared.column.Column.{Column}
