@@ -34,3 +34,4 @@ pub mod Streamed
 pub mod BringStream
 pub mod Begins
 pub mod Opened
+pub mod AtEnd

@@ -9,3 +9,4 @@ pub mod Calls
 pub mod Known
 pub mod Delivering
 pub mod Opening
+pub mod AtEnd

@@ -10,6 +10,7 @@ mod legal;
 mod opening;
 mod outcome;
 mod putting;
+mod reading;
 mod result;
 mod room;
 mod state;
