@@ -164,7 +164,12 @@ pub fn carried(kind: ColType, values: Option<ColType>) -> Result<ColType, TypeFa
 }
 
 /// The type of a function of three values.
-pub fn three_type(function: ExprFn, a: ColType, b: ColType, c: ColType) -> Result<ColType, TypeFault>
+pub fn three_type(
+    function: ExprFn,
+    a: ColType,
+    b: ColType,
+    c: ColType,
+) -> Result<ColType, TypeFault>
     requires { is_list_function function ≡ false }
     ensures { result ≡ takes function (a ∷ b ∷ c ∷ []) }
 {
