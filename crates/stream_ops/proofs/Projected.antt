@@ -56,7 +56,7 @@ step-unnamed schema (Col at) = column-unnamed schema at
 step-unnamed schema (Lit v t) = refl
 step-unnamed schema (Call f parts) = refl
 
-typed-unnamed : (schema : List Field) (e : Expr) → typed schema e ≡ typed (unnamed (kinds_of schema)) e
+pub typed-unnamed : (schema : List Field) (e : Expr) → typed schema e ≡ typed (unnamed (kinds_of schema)) e
 typed-unnamed schema e = ap (λ step. fold-Expr (Result ColType TypeFault) step e) (fun_ext (step-unnamed schema))
 
 pub kinds-made : (schema : List Field) (es : List Expr) → map (λ e. ok_or_lgl (typed schema e)) es ≡ types_of (kinds_of schema) es

@@ -1,0 +1,35 @@
+use Rattle.std.proofs.Common.{◌≡◌, ◌≤◌, suc, map, false, List, refl, sym, ap, subst, ◌∙◌}
+use Rattle.std.specs.Arc.{arc_value}
+use Rattle.scalar_value.specs.declared.value.ColType.{ColType}
+use Rattle.column_batch.specs.Batches.{kinds_of}
+use Rattle.plan_nodes.specs.declared.node.Node.{Node}
+use Rattle.plan_nodes.specs.Kinds.{is_source, kind_meaning}
+use Rattle.plan_nodes.specs.Plans.{input_kinds, node_at}
+use Rattle.op_set.specs.Joins.{is_join}
+use Rattle.op_set.specs.Meanings.{meaning_of}
+use Rattle.plan_runs.proofs.Numbered.{node_is, inputs_within}
+use Rattle.plan_runs.proofs.operators.operator_at.Goals as goal
+
+pub inputs_of-requires : goal.inputs_of-requires
+inputs_of-requires c =
+    inputs_within c.args.nodes.now c.args.place c.index-nodes-place.result c.requires.plan c.requires.place
+    (node_is c.args.nodes.now _ c.args.place c.index-nodes-place.result refl c.requires.place c.index-nodes-place.is)
+
+pub op_of-requires-clause-no_source : goal.op_of-requires-clause-no_source
+op_of-requires-clause-no_source c =
+    subst (λ (v : Node). is_source v.kind ≡ false) (node_is c.args.nodes.now _ c.args.place c.index-nodes-place.result refl c.requires.place c.index-nodes-place.is) c.requires.no_source
+
+pub op_of-requires-clause-no_join : goal.op_of-requires-clause-no_join
+op_of-requires-clause-no_join c =
+    subst (λ (v : Node). is_join v.kind ≡ false) (node_is c.args.nodes.now _ c.args.place c.index-nodes-place.result refl c.requires.place c.index-nodes-place.is) (c.requires.no_join (suc c.args.place))
+
+pub returns : goal.returns
+returns c =
+    let here = node_is c.args.nodes.now _ c.args.place c.index-nodes-place.result refl c.requires.place c.index-nodes-place.is in
+    let made = c.in_ok-new.ensures.ok in
+    let op = c.in_ok-op_of.ensures in
+    let ins = c.in_ok-inputs.ensures in
+    let cut = c.deref.ensures.value in
+    let v = c.index-nodes-place.result in
+    ap meaning_of made ∙ (op ∙ (ap (λ xs. kind_meaning v.kind (map (λ s. kinds_of s.now) xs) c.args.batch) cut ∙ (ap (λ is. kind_meaning v.kind is c.args.batch) ins
+    ∙ ap (λ (x : Node). kind_meaning x.kind (input_kinds c.args.nodes.now x) c.args.batch) (sym here))))

@@ -1,0 +1,7 @@
+//! Plans, run: by one worker alone.
+#![tactic(auto)]
+
+mod alone;
+
+pub use alone::run_alone;
+pub use task_core::{Finished, Setting};
