@@ -1,0 +1,5 @@
+pub mod Calendar
+pub mod TypedPieces
+pub mod TypedCalls
+pub mod TypedReadings
+pub mod TypedTerms
