@@ -19,7 +19,7 @@ use Rattle.term_types.specs.declared.piece.Piece.{Piece}
 use Rattle.term_types.specs.Faults.{and_then}
 use Rattle.term_types.specs.Pieces.{type_as, expr_as}
 use Rattle.term_types.specs.Terms.{Reading, Argument, kind_step, arg_step, call_step, pipe_step, term_step, reading, called, argument, piece}
-use Rattle.term_laws.specs.TermLaws.{TermsAreTyped}
+use Rattle.term_laws.specs.TermLaws.{TermsAreTyped, TermsAreTypedAs}
 use Rattle.term_laws.proofs.TypedPieces.{Every, IfGiven, IsTyped, typed_as}
 use Rattle.term_laws.proofs.TypedReadings.{IsRead, ArgumentRead, plain_read, column_typed, word_typed, unary_read, binary_read, call_read}
 
@@ -112,6 +112,12 @@ module _ (schema : List Field) where
       (λ x y is. subst (λ z. CallHolds schema (roll-Call z)) is (call_rolled (map-Call WithKind WithArg WithCall WithPipe WithTerm TermKind Arg Call Pipe Term (λ e. e.0) (λ e. e.0) (λ e. e.0) (λ e. e.0) (λ e. e.0) y) (args_read y.args)))
       (λ x y is. tt)
       (λ x y is. subst (λ z. TermHolds schema (roll-Term z)) is (term_rolled (map-Term WithKind WithArg WithCall WithPipe WithTerm TermKind Arg Call Pipe Term (λ e. e.0) (λ e. e.0) (λ e. e.0) (λ e. e.0) (λ e. e.0) y) y.kind.1))
+
+part_typed : (schema : List Field) (r : Result Piece TermFault) (p : Piece) → IfGiven (IsTyped schema) r → r ≡ Ok p → IsTyped schema p
+part_typed schema r p h is = let P : Result Piece TermFault → Type 0 = λ x. IfGiven (IsTyped schema) x in subst P is h
+
+pub terms_are_typed_as : TermsAreTypedAs
+terms_are_typed_as schema t p k is = typed_as schema k p (part_typed schema (piece schema t) p (terms_hold schema t).value is)
 
 by_piece : (schema : List Field) (r : Result Piece TermFault) (e : Expr × ColType) → IfGiven (IsTyped schema) r → and_then r (λ p. Ok (expr_as Lgl p, type_as Lgl p)) ≡ Ok e → typed schema e.0 ≡ Ok e.1
 by_piece schema (Ok p) e h is =
