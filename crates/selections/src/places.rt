@@ -1,10 +1,11 @@
-ghost use Rattle.std.specs.Prelude.{◌≡◌, IfOk, OnOk};
+ghost use Rattle.std.specs.Prelude.{◌≡◌, ◌&&◌, not, nat_lt, filter, IfOk, OnOk};
+ghost use Rattle.std.specs.List.{range_with_len};
 ghost use Rattle.term_types.specs.Terms.{place_of as place_named};
 ghost use Rattle.selections.specs.Columns.{all_places as all_of_table, is_among as stands_among, with_column as one_more, with_columns as many_more, without as those_without, with_or_without, between as those_between};
 
 use row_table::{Field, Schema};
 use scalar_value::{Mem, NoMemory, Seq, Text};
-use std::alloc::Global;
+use std::alloc::{AllocError, Global};
 
 /// A place as it is kept. A table with a column that has no such place is wanting memory.
 pub fn as_place(place: usize) -> Mem<u32>
@@ -30,13 +31,18 @@ pub fn place_of(schema: &Schema, name: &Text) -> Mem<Option<u32>>
     }
 }
 
+fn counted(alloc: Global, count: u32) -> Result<Vec<u32>, AllocError>
+    ensures { IfOk result (λ places. places.items ≡ range_with_len 0 count) }
+{
+    (0..count).collect(alloc)
+}
+
 /// The places of all columns in table order, as tidyselect's `everything()`. The only error is want of memory, in a table
 /// of more than 2^32 - 1 columns too.
 pub fn all_places(alloc: Global, schema: &Schema) -> Mem<Seq<u32>>
     ensures { IfOk result (λ places. places ≡ all_of_table schema.now) }
 {
-    let count = as_place(schema.len())?;
-    Ok(Seq::of((0..count).collect(alloc)?))
+    Ok(Seq::of(counted(alloc, as_place(schema.len())?)?))
 }
 
 /// Whether a column stands among these.
@@ -91,15 +97,18 @@ pub fn with_selector(alloc: Global, mut had: Seq<u32>, away: bool, columns: &[u3
     Ok(had)
 }
 
+fn counted_between(alloc: Global, count: u32, low: u32, high: u32) -> Result<Vec<u32>, AllocError>
+    ensures { IfOk result (λ places. places.items ≡ filter (λ at. not (nat_lt at low) && not (nat_lt high at)) (range_with_len 0 count)) }
+{
+    (0..count)
+        .filter(|at| !(*at < low) && !(high < *at))
+        .collect(alloc)
+}
+
 /// Two columns and those between them, in table order, whichever of the two stands first.
 pub fn between(alloc: Global, schema: &Schema, a: u32, b: u32) -> Mem<Seq<u32>>
     ensures { IfOk result (λ places. places ≡ those_between a b schema.now) }
 {
     let count = as_place(schema.len())?;
-    let (low, high) = (a.min(b), a.max(b));
-    Ok(Seq::of(
-        (0..count)
-            .filter(|at| !(*at < low) && !(high < *at))
-            .collect(alloc)?,
-    ))
+    Ok(Seq::of(counted_between(alloc, count, a.min(b), a.max(b))?))
 }
