@@ -35,7 +35,7 @@ fn shown(alloc: Global, term: &Term) -> Result<String, Fail> {
     if !selector.form {
         return Ok(String::from_str(alloc, "no selector")?);
     }
-    match selector.columns {
+    match &selector.columns {
         Ok(places) => Ok(format!(in alloc; "{:?}", places.as_slice())?),
         Err(fault) => {
             let at = (fault.at as usize).saturating_sub(BEFORE.len());
