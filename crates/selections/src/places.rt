@@ -101,7 +101,7 @@ fn counted_between(alloc: Global, count: u32, low: u32, high: u32) -> Result<Vec
     ensures { IfOk result (λ places. places.items ≡ filter (λ at. not (nat_lt at low) && not (nat_lt high at)) (range_with_len 0 count)) }
 {
     (0..count)
-        .filter(|at| !(*at < low) && !(high < *at))
+        .filter(|at| low <= *at && *at <= high)
         .collect(alloc)
 }
 
