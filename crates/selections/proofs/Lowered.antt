@@ -1,5 +1,5 @@
 -- Names and texts without regard to case: their fronts, their ends, and where a text stands in a name.
-use Rattle.std.proofs.Common.{ℕ, suc, ◌+◌, ◌-◌, ◌<◌, ◌≤◌, ◌≡◌, Bool, true, false, ◌||◌, nat_eq, List, [], ◌∷◌, length, get_or, take, drop, map, sym, ap, ◌∙◌, arith, drop-cons, Decides}
+use Rattle.std.proofs.Common.{ℕ, suc, ◌+◌, ◌-◌, ◌<◌, ◌≡◌, Bool, false, ◌||◌, nat_eq, List, ◌∷◌, length, get_or, take, drop, sym, ap, ◌∙◌, arith, drop-cons, Decides}
 use Rattle.std.specs.List.{starts_with, ends_with}
 use Rattle.std.specs.Char.{to_ascii_lowercase}
 use Rattle.std.specs.Str.{bytes_eq}

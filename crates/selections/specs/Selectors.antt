@@ -1,5 +1,5 @@
 -- The selections of tidyselect that a script may write, selector by selector from left to right.
-use Rattle.std.specs.Prelude.{ℕ, Bool, true, false, not, ◌&&◌, nat_eq, if◌then◌else◌, codes, Option, Some, None, Result, Ok, Err, List, [], ◌∷◌, map, position}
+use Rattle.std.specs.Prelude.{ℕ, Bool, true, false, ◌&&◌, nat_eq, if◌then◌else◌, codes, Option, Some, None, Result, Ok, List, [], ◌∷◌, map}
 use Rattle.std.specs.List.{list_all, starts_with, ends_with}
 use Rattle.std.specs.Str.{bytes_eq}
 use Rattle.row_table.specs.declared.field.Field.{Field}

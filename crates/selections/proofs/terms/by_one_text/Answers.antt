@@ -1,4 +1,4 @@
-use Rattle.std.proofs.Common.{List, ℕ, ◌≡◌, true, sym, ap, ◌∙◌, Option, None, Result, Ok}
+use Rattle.std.proofs.Common.{List, ℕ, true, sym, ap, ◌∙◌, Option, None, Ok}
 use Rattle.selections.specs.Columns.{lowered, passes, places_that}
 use Rattle.selections.specs.Selectors.{of_columns, by_one_text}
 use Rattle.selections.proofs.terms.by_one_text.Goals as goal
