@@ -1,0 +1,6 @@
+pub mod KeyTests
+pub mod Windowed
+pub mod GivenRows
+pub mod Fitted
+pub mod Held
+pub mod Streams
