@@ -4,3 +4,4 @@ pub mod GivenRows
 pub mod Fitted
 pub mod Held
 pub mod Streams
+pub mod Tested
