@@ -1,5 +1,5 @@
 -- The rows that a join gives fit its columns.
-use Rattle.std.proofs.Common.{◌≡◌, true, cond, List, [], ◌∷◌, ◌++◌, map, filter, refl, ◌∙◌, ap, IsTrue}
+use Rattle.std.proofs.Common.{◌≡◌, true, cond, List, [], ◌∷◌, ◌++◌, map, filter, refl, ◌∙◌, IsTrue}
 use Rattle.scalar_value.specs.declared.value.Value.{Value}
 use Rattle.scalar_value.specs.declared.value.ColType.{ColType}
 use Rattle.row_table.specs.declared.join.JoinKind.{JoinKind}

@@ -1,5 +1,5 @@
 -- What the parts of a hashjoin hold after each of its calls.
-use Rattle.std.proofs.Common.{◌≡◌, ℕ, Bool, true, false, ◌&&◌, cond, not, List, [], ◌∷◌, ◌++◌, map, filter, take, drop, inl, inr, Option, Some, None, refl, sym, ◌∙◌, ap, ap₂, subst, IsTrue}
+use Rattle.std.proofs.Common.{◌≡◌, ℕ, true, false, ◌&&◌, cond, not, List, [], ◌∷◌, ◌++◌, map, take, drop, inl, inr, Option, Some, None, refl, sym, ◌∙◌, ap, ap₂, subst, IsTrue}
 use Rattle.std.specs.List.{list_any}
 use Rattle.std.proofs.lemmas.List.{take-map, drop-map}
 use Rattle.scalar_value.specs.declared.value.Value.{Value}
@@ -16,7 +16,7 @@ use Rattle.plan_nodes.specs.Kinds.{join_meaning, matching, missing_row, joined_r
 use Rattle.plan_nodes.specs.Examples.{bare, Keeps}
 use Rattle.plan_nodes.proofs.Parts.{left-true, right-true, keeps-flat, keeps-rows, keeps-gathered, keeps-fit}
 use Rattle.plan_nodes.proofs.JoinFits.{kinds-same, fits-missing}
-use Rattle.hash_join.specs.Parts.{left_over, HoldsRight}
+use Rattle.hash_join.specs.Parts.{HoldsRight}
 use Rattle.hash_join.proofs.Fitted.{columns_of, fit-joined, fits-pairs}
 
 -- where nothing was streamed, all right rows are left over

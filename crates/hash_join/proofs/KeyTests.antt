@@ -1,5 +1,5 @@
 -- Keys that are compared column by column.
-use Rattle.std.proofs.Common.{◌≡◌, ℕ, suc, ◌<◌, ◌+◌, add-one, Bool, true, false, ◌&&◌, ◌||◌, not, List, [], ◌∷◌, drop, length, get_or, Option, Some, None, refl, sym, ◌∙◌, ap, ap₂, slice_get, unwrap_or, arith, drop-cons}
+use Rattle.std.proofs.Common.{◌≡◌, ℕ, ◌<◌, ◌+◌, add-one, Bool, true, false, ◌&&◌, ◌||◌, not, List, ◌∷◌, drop, length, get_or, Option, Some, None, refl, sym, ◌∙◌, ap, ap₂, slice_get, unwrap_or, drop-cons}
 use Rattle.std.specs.Prelude.{slice_index_or}
 use Rattle.std.specs.List.{list_any}
 use Rattle.std.proofs.lemmas.Option.{unwrap_or-slice_get}

@@ -1,5 +1,5 @@
 -- What a window shows of the output of a streamed batch.
-use Rattle.std.proofs.Common.{◌≡◌, ℕ, Bool, false, List, [], drop, ◌∙◌, ap, ap₂, sym, subst}
+use Rattle.std.proofs.Common.{◌≡◌, ℕ, List, [], drop, ◌∙◌, ap, ap₂, sym, subst}
 use Rattle.scalar_value.specs.declared.value.Value.{Value}
 use Rattle.scalar_value.specs.declared.value.ColType.{ColType}
 use Rattle.plan_nodes.specs.declared.node.JoinSpec.{JoinSpec}

@@ -1,5 +1,5 @@
 -- Rows that are offered one by one to a window over all of them.
-use Rattle.std.specs.Prelude.{ℕ, ◌-◌, Bool, true, false, cond, nat_lt, List, [], ◌∷◌, ◌++◌, length}
+use Rattle.std.specs.Prelude.{◌-◌, true, cond, nat_lt, List, [], ◌∷◌, ◌++◌, length}
 use Rattle.scalar_value.specs.declared.value.Value.{Value}
 use Rattle.hash_join.specs.declared.window.Window.{Window}
 

@@ -1,6 +1,5 @@
-use Rattle.std.proofs.Common.{◌≡◌, ◌<◌, length, sym, ◌∙◌, ap₂, arith}
-use Rattle.row_table.specs.Keys.{key_of, keys_match, rows_match}
-use Rattle.plan_nodes.specs.Kinds.{matching}
+use Rattle.std.proofs.Common.{◌<◌, length, sym, ◌∙◌, ap₂, arith}
+use Rattle.row_table.specs.Keys.{key_of, keys_match}
 use Rattle.hash_join.proofs.KeyTests.{keys-differ, keys-go-on}
 use Rattle.hash_join.proofs.matches.rows_match.Goals as goal
 

@@ -1,4 +1,4 @@
-use Rattle.std.proofs.Common.{◌≡◌, ◌++◌, [], ◌∷◌, cond, not, filter, inl, inr, sym, ◌∙◌, ap}
+use Rattle.std.proofs.Common.{◌++◌, [], ◌∷◌, cond, not, filter, inl, inr, sym, ◌∙◌, ap}
 use Rattle.row_table.specs.Keys.{rows_match}
 use Rattle.plan_nodes.specs.Kinds.{matching}
 use Rattle.plan_nodes.proofs.JoinParts.{on-ok}

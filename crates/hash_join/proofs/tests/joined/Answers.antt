@@ -10,8 +10,8 @@ run-requires-clause-fits g c κs within =
     let inputs = (type.Int ∷ []) ∷ (type.Int ∷ []) ∷ [] in (
       inputs,
       ap (λ (m : OpMeaning). m.fits inputs) c.new-op.ensures
-      ∙ fits-here (kinds_of c.in_ok-schema_of.field-0) (kinds_of c.in_ok-schema_of-2.field-0) c.in_ok-spec.spec.left_keys c.in_ok-spec.spec.right_keys
-      c.in_ok-schema_of.ensures c.in_ok-schema_of-2.ensures c.in_ok-spec.ensures.0 c.in_ok-spec.ensures.1,
+          ∙ fits-here (kinds_of c.in_ok-schema_of.field-0) (kinds_of c.in_ok-schema_of-2.field-0) c.in_ok-spec.spec.left_keys c.in_ok-spec.spec.right_keys
+          c.in_ok-schema_of.ensures c.in_ok-schema_of-2.ensures c.in_ok-spec.ensures.0 c.in_ok-spec.ensures.1,
       c.in_ok-left.ensures,
       c.in_ok-right.ensures,
     )

@@ -1,10 +1,9 @@
-use Rattle.std.proofs.Common.{◌≡◌, ◌+◌, ◌++◌, [], ◌∷◌, cond, nat_lt, length, take, drop, Some, None, List, sym, ◌∙◌, ap, ap₂, subst}
+use Rattle.std.proofs.Common.{◌≡◌, ◌+◌, ◌++◌, [], ◌∷◌, cond, drop, Some, None, sym, ◌∙◌, ap, ap₂, subst}
 use Rattle.std.specs.Arc.{arc_value}
-use Rattle.scalar_value.specs.declared.value.Value.{Value}
 use Rattle.column_batch.specs.Batches.{kinds_of, fit_kinds}
 use Rattle.column_batch.proofs.Fitting.{fit_kinds-take, fit_kinds-drop}
 use Rattle.plan_nodes.specs.Operators.{first_of, item}
-use Rattle.plan_nodes.specs.Kinds.{missing_row, joined_rows}
+use Rattle.plan_nodes.specs.Kinds.{joined_rows}
 use Rattle.plan_nodes.specs.Examples.{Keeps}
 use Rattle.plan_nodes.proofs.Parts.{keeps-push}
 use Rattle.plan_nodes.proofs.JoinParts.{if-ok}
