@@ -1,0 +1,4 @@
+pub mod Matches
+pub mod Windows
+pub mod Given
+pub mod Parts
