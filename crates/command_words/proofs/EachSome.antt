@@ -1,5 +1,5 @@
 -- How a loop that reads one piece after another comes to `each_some`.
-use Rattle.std.proofs.Common.{◌≡◌, List, [], ◌∷◌, ◌++◌, length, drop, get_or, Option, Some, None, Result, Ok, Err, ℕ, ◌<◌, ◌+◌, suc, add-one, drop-cons, refl, sym, ap, ◌∙◌, arith, append_assoc, map, append-nil}
+use Rattle.std.proofs.Common.{◌≡◌, List, [], ◌∷◌, ◌++◌, length, drop, get_or, Option, Some, None, Err, ℕ, ◌<◌, ◌+◌, add-one, drop-cons, refl, sym, ap, ◌∙◌, append_assoc, map, append-nil}
 use Rattle.std.proofs.Math.Seq.{drop-length}
 use Rattle.scalar_value.specs.declared.memory.Or.{Or}
 use Rattle.scalar_value.specs.declared.memory.Or.TheVariants.{Fault, Memory}

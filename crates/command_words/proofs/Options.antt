@@ -1,7 +1,7 @@
 -- The number options of a parse that succeeds are numbers in their ranges.
-use Rattle.std.proofs.Common.{◌≡◌, ◌⊎◌, ◌∙◌, ◌+◌, ◌<◌, ◌≤◌, ◌==◌, ◌&&◌, ◌^◌, cond, not, zero, suc, ℕ, Bool, true, false, List, [], ◌∷◌, length, map, drop, Option, Some, None, refl, sym, ap, subst, arith, codes, inl, inr, true≢false, slice_index}
+use Rattle.std.proofs.Common.{◌≡◌, ◌⊎◌, ◌∙◌, ◌<◌, ◌≤◌, ◌==◌, ◌&&◌, cond, not, zero, suc, ℕ, Bool, true, false, List, [], ◌∷◌, length, map, drop, Option, Some, None, refl, sym, ap, subst, arith, codes, inl, inr, true≢false, slice_index}
 use Rattle.std.specs.Prelude.{option_map, unwrap_or, IfSome, pos, slice_get}
-use Rattle.std.specs.List.{All, Any, list_all, slice_index_or}
+use Rattle.std.specs.List.{All, list_all, slice_index_or}
 use Rattle.std.specs.Borrow.{Bor}
 use Rattle.std.specs.Str.{bytes_eq}
 use Rattle.std.specs.Str.Parse.{IsNumeral, digits_value, starts_with_minus, without_leading_plus}
@@ -14,9 +14,9 @@ use Rattle.std.proofs.lemmas.List.{length-map}
 use Rattle.std.proofs.Math.ListN.{get_or-map}
 use Rattle.std.specs.Option.{option_map_or}
 use Rattle.clap.specs.Lexer.{without_minus}
-use Rattle.clap.specs.Built.{IsAuto, IsParsedFrom, NamesNoGroup}
-use Rattle.clap.specs.Facts.{Entry, EntryPasses, HasReading, IsParsed, PassesArg, ValuesPass, args_of, groups_of, parser_of_value}
-use Rattle.clap.specs.Matches.{found_of, has_subcommand, matched_of, one_text}
+use Rattle.clap.specs.Built.{IsParsedFrom, NamesNoGroup}
+use Rattle.clap.specs.Facts.{Entry, EntryPasses, HasReading, PassesArg, ValuesPass, args_of, groups_of, parser_of_value}
+use Rattle.clap.specs.Matches.{found_of, matched_of, one_text}
 use Rattle.clap.specs.Simple.{App, app_of, has_plain_fields}
 use Rattle.clap.specs.Values.{Accepts, IsSignedIn, read_as, reading_of}
 use Rattle.clap.specs.Walk.{Row, Rule, Text, is_empty, one_of, rows_of, rule_of}
@@ -30,7 +30,6 @@ use Rattle.clap.specs.declared.builder.value_parser.ValueParser.TheVariants as v
 use Rattle.clap.specs.declared.builder.value_parser.Reading.{Reading}
 use Rattle.clap.specs.declared.builder.value_parser.Reading.TheVariants as reading
 use Rattle.clap.specs.declared.parser.matches.ArgMatches.{ArgMatches}
-use Rattle.clap.specs.declared.parser.matches.Found.{Found}
 use Rattle.clap.specs.declared.parser.matches.MatchedArg.{MatchedArg}
 use Rattle.command_words.specs.Command.{arguments, command, number_option}
 use Rattle.command_words.specs.Reading.{HasNumbers, IsNumberFrom, IsOption}

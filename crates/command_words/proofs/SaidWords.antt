@@ -1,5 +1,5 @@
 -- How the steps of reading the words come to their definition.
-use Rattle.std.proofs.Common.{◌≡◌, ◌⊎◌, ◌∙◌, ◌<◌, ◌&&◌, not, nat_lt, Bool, true, false, List, ℕ, [], Option, Some, None, Ok, Err, refl, sym, ap, codes, inl, inr, lt-ltb}
+use Rattle.std.proofs.Common.{◌≡◌, ◌∙◌, Bool, true, List, [], Option, Some, None, Err, refl, sym, ap, codes}
 use Rattle.std.specs.Prelude.{unwrap_or}
 use Rattle.clap.specs.Words.{Row, Text, all_of, first_of}
 use Rattle.plan_store.specs.declared.setting.Setting.{Setting}
@@ -8,14 +8,9 @@ use Rattle.scalar_value.specs.declared.memory.Or.TheVariants.{Fault, Memory}
 use Rattle.scalar_value.specs.Gives.{GivesSome}
 use Rattle.command_words.specs.Steps.{◌>>=◌}
 use Rattle.command_words.specs.Tables.{tables_of}
-use Rattle.command_words.specs.Settings.{csv_of, is_given, setting_of, words_of}
+use Rattle.command_words.specs.Settings.{can_run, csv_of, is_given, setting_of, words_of}
 use Rattle.command_words.specs.declared.words.BadWords.{BadWords}
 use Rattle.command_words.specs.declared.words.Words.{Words}
-
--- one of two flags isn't given
-pub not_both : (a b : Bool) → ((a ≡ true) × (b ≡ false)) ⊎ (a ≡ false) → (a && b) ≡ false
-not_both a b (inl h) = rw (h.0, h.1) refl
-not_both a b (inr h) = rw h refl
 
 -- the words of these parts
 abbrev pub made_of : Setting → Bool → Bool → Bool → Text → List (Text × Text) → Words
@@ -37,15 +32,14 @@ steps_of setting explain report csv script tables =
 pub said_by : (rows : List Row) (setting : Setting) (explain report : Bool) (format script : Option Text)
     → setting ≡ setting_of rows → explain ≡ is_given (codes "explain") rows → report ≡ is_given (codes "report") rows
     → format ≡ first_of (codes "format") rows → script ≡ first_of (codes "SCRIPT") rows
-    → setting.resume < setting.pause → ((explain ≡ true) × (report ≡ false)) ⊎ (explain ≡ false)
+    → can_run setting explain report ≡ true
     → words_of rows ≡ steps_of setting explain report (csv_of format) script (tables_of (unwrap_or (all_of (codes "TABLE") rows) []))
 unfolding words_of
-said_by rows setting explain report format script s e r f t below either =
-    let test : (nat_lt setting.resume setting.pause && not (explain && report)) ≡ true = rw (lt-ltb setting.resume setting.pause below, not_both explain report either) refl in
-    let test_there : (nat_lt (setting_of rows).resume (setting_of rows).pause && not (is_given (codes "explain") rows && is_given (codes "report") rows)) ≡ true =
-    ap (λ (x : Setting). nat_lt x.resume x.pause && not (is_given (codes "explain") rows && is_given (codes "report") rows)) (sym s)
-    ∙ ap (λ (x : Bool). nat_lt setting.resume setting.pause && not (x && is_given (codes "report") rows)) (sym e)
-    ∙ ap (λ (x : Bool). nat_lt setting.resume setting.pause && not (explain && x)) (sym r) ∙ test in
+said_by rows setting explain report format script s e r f t test =
+    let test_there : can_run (setting_of rows) (is_given (codes "explain") rows) (is_given (codes "report") rows) ≡ true =
+    ap (λ (x : Setting). can_run x (is_given (codes "explain") rows) (is_given (codes "report") rows)) (sym s)
+    ∙ ap (λ (x : Bool). can_run setting x (is_given (codes "report") rows)) (sym e)
+    ∙ ap (λ (x : Bool). can_run setting explain x) (sym r) ∙ test in
     let tables = tables_of (unwrap_or (all_of (codes "TABLE") rows) []) in
     rw test_there
     (ap (λ (x : Setting). steps_of x (is_given (codes "explain") rows) (is_given (codes "report") rows) (csv_of (first_of (codes "format") rows)) (first_of (codes "SCRIPT") rows) tables) (sym s)

@@ -1,5 +1,5 @@
 -- What the words of a command line say.
-use Rattle.std.specs.Prelude.{ℕ, ◌/◌, ◌==◌, Bool, true, false, not, ◌&&◌, nat_lt, if◌then◌else◌, List, [], length, Option, Some, None, Result, Ok, Err, unwrap_or, codes}
+use Rattle.std.specs.Prelude.{ℕ, ◌/◌, ◌==◌, Bool, true, false, not, ◌&&◌, nat_lt, if◌then◌else◌, List, [], length, Option, Some, None, Result, Err, unwrap_or, codes}
 use Rattle.std.specs.Option.{option_map_or, ok_or}
 use Rattle.std.specs.Str.{bytes_eq}
 use Rattle.std.specs.Str.Parse.{digits_value, without_leading_plus}
@@ -34,12 +34,16 @@ abbrev pub csv_of : Option Text → Option Bool
 csv_of None = Some false
 csv_of (Some text) = if bytes_eq text (codes "csv") then Some true else (if bytes_eq text (codes "table") then Some false else None)
 
--- The words of a parse that succeeds: `resume` is below `pause`, which its default always is, and
--- `--explain` and `--report` aren't both given; the format is one of the two; there is a script; and
--- the TABLE words are tables.
+-- `resume` is below `pause`, which its default always is, and `--explain` and `--report` aren't both
+-- given
+abbrev pub can_run : Setting → Bool → Bool → Bool
+can_run setting explain report = nat_lt setting.resume setting.pause && not (explain && report)
+
+-- The words of a parse that succeeds: the run can be; the format is one of the two; there is a
+-- script; and the TABLE words are tables.
 unfoldable pub words_of : List Row → Option Words
 words_of rows =
-    if nat_lt (setting_of rows).resume (setting_of rows).pause && not (is_given (codes "explain") rows && is_given (codes "report") rows) then
+    if can_run (setting_of rows) (is_given (codes "explain") rows) (is_given (codes "report") rows) then
     csv_of (first_of (codes "format") rows) >>= (λ csv.
     first_of (codes "SCRIPT") rows >>= (λ script.
     tables_of (unwrap_or (all_of (codes "TABLE") rows) []) >>= (λ tables. Some (record {

@@ -79,6 +79,13 @@ fn setting_of(matches: &ArgMatches<'_>) -> Setting
     }
 }
 
+// Whether such a run can be: it goes on at fewer batches than it pauses at, and one thing at most is told of it.
+fn can_run(setting: &Setting, explain: bool, report: bool) -> bool
+    ensures { result ≡ said.can_run setting.now explain report }
+{
+    setting.resume < setting.pause && !(explain && report)
+}
+
 #[tactic(auto, unfolding(crate::specs::Settings::words_of))]
 fn words_of(alloc: Global, matches: &ArgMatches<'_>) -> Res<Words, BadWords>
     requires { HasNumbers (rows_of (found_of matches.now)) }
@@ -88,7 +95,7 @@ fn words_of(alloc: Global, matches: &ArgMatches<'_>) -> Res<Words, BadWords>
     let setting = setting_of(matches);
     let explain = is_given(matches, "explain");
     let report = is_given(matches, "report");
-    if setting.resume >= setting.pause || (explain && report) {
+    if !can_run(&setting, explain, report) {
         return Err(Or::Fault(BadWords));
     }
     let Some(csv) = csv_of(matches.get_str("format")) else {

@@ -1,4 +1,4 @@
-use Rattle.std.proofs.Common.{◌≡◌, ◌∙◌, ◌==◌, ap, refl, subst, sym, length, true, Err, List, ℕ, map}
+use Rattle.std.proofs.Common.{◌≡◌, ◌∙◌, ◌==◌, ap, refl, subst, sym, length, true, Err, List, map}
 use Rattle.std.specs.String.{string_bytes}
 use Rattle.clap.specs.Words.{App, Kinds, Text, app_of, fault_of, is_simple, is_simple_and_free, matches_of}
 use Rattle.clap.specs.Kinds.{HasKind}
