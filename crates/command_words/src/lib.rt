@@ -8,6 +8,3 @@ mod words;
 
 pub use names::{is_free_name, is_name};
 pub use words::{BadWords, Words, settings};
-
-#[cfg(test)]
-mod tests;
