@@ -8,3 +8,6 @@ mod words;
 
 pub use names::{is_free_name, is_name};
 pub use words::{BadWords, Words, settings};
+
+#[cfg(test)]
+mod tests;
