@@ -58,5 +58,5 @@ words_of rows =
     else None
 
 -- the words, where clap finds no fault in them
-abbrev pub settings_of : List Text → Result Words BadWords
+unfoldable pub settings_of : List Text → Result Words BadWords
 settings_of words = if length (fault_of command words) == 0 then ok_or (words_of (matches_of command words)) (record {}) else Err (record {})

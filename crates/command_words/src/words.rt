@@ -119,6 +119,7 @@ fn words_of(alloc: Global, matches: &ArgMatches<'_>) -> Res<Words, BadWords>
 /// What the words of a command line say, or that they are no command: by clap's reading of a command with the options
 /// `--workers`, `--batch`, `--pause`, `--resume` and `--format`, the flags `--explain` and `--report`, a SCRIPT and any
 /// number of TABLE words, each NAME=PATH. A program's name doesn't stand among them.
+#[tactic(auto, unfolding(crate::specs::Settings::settings_of))]
 pub fn settings(alloc: Global, words: &[String]) -> Res<Words, BadWords>
     ensures gives { Gives result (settings_of (map (λ w. string_bytes w) words.now)) }
     ensures within { IfOk result (λ w. IsSetting w.setting) }
