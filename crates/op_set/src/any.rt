@@ -1,8 +1,9 @@
 //! An operator of any kind. What it does is that of the operator that it is.
-ghost use Rattle.std.specs.Prelude.{◌≡◌, List, [], map, IfOk, IsOk};
+ghost use Rattle.std.specs.Prelude.{◌≡◌, true, List, [], map, IfOk, IsTrue};
 
-use crate::parts::{no_rows, sink_parts};
+use crate::parts::{batches_in, no_rows, nothing};
 use column_batch::Batch;
+use hash_join::{Built, JoinOp};
 use order_fetch::{Gathered, SinkOp};
 use plan_machine::OpShape;
 use plan_nodes::{Operator, Streamed};
@@ -16,20 +17,23 @@ use stream_ops::{FilterOp, NoPart, ProjectOp};
 pub enum AnyOp {
     Filter(FilterOp),
     Project(ProjectOp),
+    Join(JoinOp),
     Sink(SinkOp),
 }
 
-/// The part of a worker: nothing for an operator that keeps nothing, and the batches that it took for a sink.
+/// The part of a worker: nothing for an operator that keeps nothing, and the batches that it took for a hashjoin or a sink.
 #[derive(Debug, Drop)]
 pub enum AnyLocal {
     Nothing,
-    Sink(Seq<Batch>),
+    Batches(Seq<Batch>),
 }
 
-/// The part that all workers share: nothing for an operator that keeps nothing, and the gathered rows for a sink.
+/// The part that all workers share: nothing for an operator that keeps nothing, and the gathered rows for a hashjoin or a
+/// sink.
 #[derive(Debug, Drop)]
 pub enum AnyShared {
     Nothing,
+    Join(Built),
     Sink(Gathered),
 }
 
@@ -37,7 +41,7 @@ impl Operator for AnyOp {
     ghost use Rattle.scalar_value.specs.declared.value.Value.{Value};
     ghost use Rattle.scalar_value.specs.declared.value.ColType.{ColType};
     ghost use Rattle.plan_machine.specs.Batch.{Batch as Item, gathered};
-    ghost use Rattle.plan_nodes.specs.Operators.{Each, flat, folded_of};
+    ghost use Rattle.plan_nodes.specs.Operators.{Each, flat, first_of, folded_of};
     ghost use Rattle.op_set.specs.Meanings.{meaning_of, LocalIs, SharedIs};
 
     type Local = AnyLocal;
@@ -48,12 +52,13 @@ impl Operator for AnyOp {
 
     ghost local_is = { LocalIs };
 
-    ghost shared_is = { λ m inputs s built streamed. SharedIs m inputs s built };
+    ghost shared_is = { SharedIs };
 
     fn shape(&self) -> OpShape {
         match self {
             AnyOp::Filter(op) => op.shape(),
             AnyOp::Project(op) => op.shape(),
+            AnyOp::Join(op) => op.shape(),
             AnyOp::Sink(op) => op.shape(),
         }
     }
@@ -62,6 +67,7 @@ impl Operator for AnyOp {
         match self {
             AnyOp::Filter(op) => op.wanted(),
             AnyOp::Project(op) => op.wanted(),
+            AnyOp::Join(op) => op.wanted(),
             AnyOp::Sink(op) => op.wanted(),
         }
     }
@@ -69,20 +75,23 @@ impl Operator for AnyOp {
     fn local(&self, alloc: Global) -> Mem<AnyLocal> {
         match self {
             AnyOp::Filter(_) | AnyOp::Project(_) => Ok(AnyLocal::Nothing),
-            AnyOp::Sink(op) => Ok(AnyLocal::Sink(op.local(alloc)?)),
+            AnyOp::Join(op) => Ok(AnyLocal::Batches(op.local(alloc)?)),
+            AnyOp::Sink(op) => Ok(AnyLocal::Batches(op.local(alloc)?)),
         }
     }
 
     fn begin(&self, alloc: Global) -> Mem<AnyShared> {
         match self {
             AnyOp::Filter(_) | AnyOp::Project(_) => Ok(AnyShared::Nothing),
+            AnyOp::Join(op) => Ok(AnyShared::Join(op.begin(alloc)?)),
             AnyOp::Sink(op) => Ok(AnyShared::Sink(op.begin(alloc)?)),
         }
     }
 
     fn fold(&self, alloc: Global, local: &mut AnyLocal, batch: Batch) -> Mem<()> {
         match (self, local) {
-            (AnyOp::Sink(op), AnyLocal::Sink(part)) => op.fold(alloc, part, batch),
+            (AnyOp::Join(op), AnyLocal::Batches(part)) => op.fold(alloc, part, batch),
+            (AnyOp::Sink(op), AnyLocal::Batches(part)) => op.fold(alloc, part, batch),
             _ => Ok(()),
         }
     }
@@ -93,14 +102,22 @@ impl Operator for AnyOp {
         alloc: Global,
         locals: Seq<AnyLocal>,
     ) -> Mem<AnyShared>
+        requires { (inputs : List (List ColType)) × (lists : List (List (Item (List Value))))
+            × IsTrue ((meaning_of self.now).fits inputs)
+            × Each (LocalIs (meaning_of self.now) (folded_of (meaning_of self.now) inputs)) locals lists }
         ensures { (inputs : List (List ColType)) (lists : List (List (Item (List Value))))
+            → IsTrue ((meaning_of self.now).fits inputs)
             → Each (LocalIs (meaning_of self.now) (folded_of (meaning_of self.now) inputs)) locals lists
-            → IfOk result (λ made. SharedIs (meaning_of self.now) inputs made (gathered (flat lists))) }
+            → IfOk result (λ made. SharedIs (meaning_of self.now) inputs made (gathered (flat lists)) []) }
     {
         match self {
             AnyOp::Filter(_) | AnyOp::Project(_) => Ok(AnyShared::Nothing),
+            AnyOp::Join(op) => {
+                let parts = batches_in(alloc, locals)?;
+                Ok(AnyShared::Join(op.seal(rt, alloc, parts)?))
+            }
             AnyOp::Sink(op) => {
-                let parts = sink_parts(alloc, locals)?;
+                let parts = batches_in(alloc, locals)?;
                 Ok(AnyShared::Sink(op.seal(rt, alloc, parts)?))
             }
         }
@@ -109,36 +126,56 @@ impl Operator for AnyOp {
     fn stream(
         &self,
         alloc: Global,
-        _shared: &AnyShared,
-        _local: &mut AnyLocal,
+        shared: &AnyShared,
+        local: &mut AnyLocal,
         batch: &Batch,
         from: u64,
     ) -> Mem<Streamed> {
         match self {
             AnyOp::Filter(op) => op.stream(alloc, &NoPart, &mut NoPart, batch, from),
             AnyOp::Project(op) => op.stream(alloc, &NoPart, &mut NoPart, batch, from),
-            AnyOp::Sink(_) => {
-                let out = no_rows(alloc);
-                Ok(Streamed { out, next: None })
-            }
+            AnyOp::Join(op) => match (shared, local) {
+                (AnyShared::Join(built), AnyLocal::Batches(part)) => op.stream(
+                    alloc, built, part, batch, from,
+                ),
+                _ => Ok(nothing(alloc)),
+            },
+            AnyOp::Sink(_) => Ok(nothing(alloc)),
         }
     }
 
-    /// None of these operators gives rows both for its batches and at its end.
+    /// Of these operators a hashjoin alone gives rows both for its batches and at its end.
     fn close<R: Threads + Sync>(
         &self,
-        _rt: &R,
-        _alloc: Global,
-        _shared: &AnyShared,
-        _locals: Seq<AnyLocal>,
+        rt: &R,
+        alloc: Global,
+        shared: &AnyShared,
+        locals: Seq<AnyLocal>,
     ) -> Mem<AnyShared>
-        ensures { IsOk result }
+        requires { (inputs : List (List ColType)) × (built : List (List Value)) × (lists : List (List (Item (List Value))))
+            × IsTrue ((meaning_of self.now).fits inputs)
+            × SharedIs (meaning_of self.now) inputs shared.now built []
+            × Each (LocalIs (meaning_of self.now) (first_of inputs)) locals lists }
+        ensures { (meaning_of self.now).shape.streams ≡ true
+            → (meaning_of self.now).shape.tails ≡ true
+            → (inputs : List (List ColType)) (built : List (List Value)) (lists : List (List (Item (List Value))))
+            → IsTrue ((meaning_of self.now).fits inputs)
+            → SharedIs (meaning_of self.now) inputs shared.now built []
+            → Each (LocalIs (meaning_of self.now) (first_of inputs)) locals lists
+            → IfOk result (λ made. SharedIs (meaning_of self.now) inputs made built (flat lists)) }
     {
-        Ok(AnyShared::Nothing)
+        match (self, shared) {
+            (AnyOp::Join(op), AnyShared::Join(built)) => {
+                let parts = batches_in(alloc, locals)?;
+                Ok(AnyShared::Join(op.close(rt, alloc, built, parts)?))
+            }
+            _ => Ok(AnyShared::Nothing),
+        }
     }
 
     fn tails(&self, shared: &AnyShared) -> u64 {
         match (self, shared) {
+            (AnyOp::Join(op), AnyShared::Join(built)) => op.tails(built),
             (AnyOp::Sink(op), AnyShared::Sink(gathered)) => op.tails(gathered),
             _ => 0,
         }
@@ -146,6 +183,7 @@ impl Operator for AnyOp {
 
     fn tail(&self, alloc: Global, shared: &AnyShared, k: u64) -> Mem<Batch> {
         match (self, shared) {
+            (AnyOp::Join(op), AnyShared::Join(built)) => op.tail(alloc, built, k),
             (AnyOp::Sink(op), AnyShared::Sink(gathered)) => op.tail(alloc, gathered, k),
             _ => Ok(no_rows(alloc)),
         }

@@ -2,10 +2,10 @@
 ghost use Rattle.std.specs.Prelude.{◌≡◌, ◌<◌, map, IfOk, false};
 ghost use Rattle.column_batch.specs.Batches.{kinds_of};
 ghost use Rattle.plan_nodes.specs.Kinds.{kind_meaning, is_source};
-ghost use Rattle.plan_nodes.specs.Operators.{first_of};
-ghost use Rattle.op_set.specs.Joins.{is_join};
+ghost use Rattle.plan_nodes.specs.Operators.{first_of, second_of};
 
 use crate::any::AnyOp;
+use hash_join::JoinOp;
 use order_fetch::SinkOp;
 use plan_nodes::{Node, NodeKind, Operator};
 use row_table::Schema;
@@ -22,11 +22,19 @@ fn first_schema(alloc: Global, inputs: &[&Schema]) -> Mem<Schema>
     }
 }
 
-/// The operator of a node that is no source and no hashjoin, over inputs with these columns, where batches have `batch`
+fn second_schema(alloc: Global, inputs: &[&Schema]) -> Mem<Schema>
+    ensures { IfOk result (λ schema. kinds_of schema ≡ second_of (map (λ s. kinds_of s.now) inputs.now)) }
+{
+    match inputs.get(1) {
+        Some(schema) => schema.copy(),
+        None => Ok(Seq::new(alloc)),
+    }
+}
+
+/// The operator of a node that is no source, over inputs with these columns, where batches have `batch`
 /// rows. The only error is want of memory.
 pub fn op_of(alloc: Global, node: &Node, inputs: &[&Schema], batch: u32) -> Mem<AnyOp>
     requires no_source { is_source node.now.kind ≡ false }
-    requires no_join { is_join node.now.kind ≡ false }
     requires sized { 0 < batch }
     ensures { IfOk result (λ made. ⟦<AnyOp as Operator>⟧.meaning made ≡ kind_meaning node.now.kind (map (λ s. kinds_of s.now) inputs.now) batch) }
 {
@@ -36,7 +44,12 @@ pub fn op_of(alloc: Global, node: &Node, inputs: &[&Schema], batch: u32) -> Mem<
             let schema = first_schema(alloc, inputs)?;
             Ok(AnyOp::Project(ProjectOp::new(list.copy()?, schema)))
         }
+        NodeKind::HashJoin(spec) => {
+            let left = first_schema(alloc, inputs)?;
+            let right = second_schema(alloc, inputs)?;
+            Ok(AnyOp::Join(JoinOp::new(spec.copy()?, left, right, batch)))
+        }
         NodeKind::Sink => Ok(AnyOp::Sink(SinkOp::new(batch))),
-        NodeKind::Source(_) | NodeKind::HashJoin(_) => unreachable!(),
+        NodeKind::Source(_) => unreachable!(),
     }
 }

@@ -1,7 +1,6 @@
 //! The operator of each kind of node, through the bound.
 ghost use Rattle.std.specs.Prelude.{◌≡◌, false};
 ghost use Rattle.plan_nodes.specs.Kinds.{is_source};
-ghost use Rattle.op_set.specs.Joins.{is_join};
 
 use crate::{AnyOp, op_of};
 use na_expr::Expr;
@@ -14,7 +13,6 @@ use std::test::Fail;
 
 fn op_for(alloc: Global, kind: NodeKind) -> Mem<AnyOp>
     requires no_source { is_source kind ≡ false }
-    requires no_join { is_join kind ≡ false }
 {
     let mut schema = Seq::new(alloc);
     schema.push(Field {

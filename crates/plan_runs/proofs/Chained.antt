@@ -4,9 +4,6 @@ use Rattle.std.specs.declared.alloc.Global.{Global}
 use Rattle.std.specs.declared.sync.Arc.{Arc}
 use Rattle.std.specs.Arc.{arc_value}
 use Rattle.scalar_value.specs.declared.value.Value.{Value}
-use Rattle.scalar_value.specs.declared.value.ColType.TheVariants.{Lgl}
-use Rattle.na_expr.specs.declared.expr.Expr.{Expr}
-use Rattle.na_expr.specs.Types.{typed}
 use Rattle.row_table.specs.declared.field.Field.{Field}
 use Rattle.row_table.specs.declared.table.Mark.{Mark}
 use Rattle.row_table.specs.declared.table.Mark.TheVariants.{Kept}
@@ -16,7 +13,7 @@ use Rattle.plan_machine.specs.Meaning.{SameRows, meaning}
 use Rattle.plan_nodes.specs.declared.node.Node.{Node}
 use Rattle.plan_nodes.specs.declared.node.NodeKind.{NodeKind}
 use Rattle.plan_nodes.specs.declared.node.NodeKind.TheVariants.{Source, Filter, Project, HashJoin, Sink}
-use Rattle.plan_nodes.specs.Kinds.{is_source, is_condition}
+use Rattle.plan_nodes.specs.Kinds.{is_source}
 use Rattle.column_batch.specs.Batches.{kinds_of}
 use Rattle.plan_nodes.specs.Operators.{Each}
 use Rattle.plan_nodes.specs.Plans.{IsSourceTable, node_at, no_node, IsPace, machine_plan, machine_node_at, is_kept}
@@ -25,19 +22,10 @@ use Rattle.plan_store.specs.Told.{plan_of, given_by, pace_of}
 use Rattle.plan_store.specs.Beginning.{AreTables, IsSetting, numbers_of}
 use Rattle.task_core.specs.declared.result.Finished.{Finished}
 use Rattle.task_core.specs.Opening.{IsFinished}
-use Rattle.op_set.specs.Joins.{is_join}
 use Rattle.chain_plans.specs.declared.nodes.Step.{Step}
 use Rattle.chain_plans.specs.Chains.{is_streaming, IsStep, AreSteps, nodes_behind, chain_nodes, chain_rows}
 use Rattle.chain_plans.specs.ChainLaws.{ChainsMean}
 use Rattle.chain_plans.proofs.Chains.{length_behind}
-use Rattle.stream_ops.proofs.Projected.{typed-unnamed}
-
-no_join_step : (k : NodeKind) → is_streaming k ≡ true → is_join k ≡ false
-no_join_step (Source name) e = refl
-no_join_step (Filter x) e = refl
-no_join_step (Project xs) e = refl
-no_join_step (HashJoin j) e = cc
-no_join_step Sink e = refl
 
 no_source_step : (k : NodeKind) → is_streaming k ≡ true → is_source k ≡ false
 no_source_step (Source name) e = cc
@@ -46,22 +34,11 @@ no_source_step (Project xs) e = refl
 no_source_step (HashJoin j) e = refl
 no_source_step Sink e = refl
 
-no_join_behind : (mark : Mark) (k : ℕ) (schema : List Field) (steps : List Step) → AreSteps schema steps → (i : ℕ) → is_join (at_or no_node i (nodes_behind mark k schema steps)).kind ≡ false
-no_join_behind mark k schema [] h zero = refl
-no_join_behind mark k schema [] h (suc i) = refl
-no_join_behind mark k schema (s ∷ steps) h zero = no_join_step s.kind h.0.streams
-no_join_behind mark k schema (s ∷ steps) h (suc i) = no_join_behind mark (suc k) s.schema steps h.1 i
-
 no_source_behind : (mark : Mark) (k n : ℕ) (schema : List Field) (steps : List Step) → AreSteps schema steps → numbers_of true n (nodes_behind mark k schema steps) ≡ []
 no_source_behind mark k n schema [] h = refl
 no_source_behind mark k n schema (s ∷ steps) h = rw (no_source_step s.kind h.0.streams) (no_source_behind mark (suc k) (suc n) s.schema steps h.1)
 
 module _ (name : List ℕ) (mark : Mark) (schema : List Field) (steps : List Step) (h : AreSteps schema steps) where
-  pub no_joins : (n : ℕ) → is_join (node_at (chain_nodes name mark schema steps) n).kind ≡ false
-  no_joins zero = refl
-  no_joins (suc zero) = refl
-  no_joins (suc (suc i)) = no_join_behind mark 1 schema steps h i
-
   pub one_source : numbers_of true 1 (chain_nodes name mark schema steps) ≡ 1 ∷ []
   one_source = ap (λ ns. 1 ∷ ns) (no_source_behind mark 1 2 schema steps h)
 
@@ -107,9 +84,3 @@ rows_are mean name mark schema steps h t setting within nodes sources is those k
     (subst (λ m. IsFinished (given_by (chain_nodes name m schema steps) (t ∷ []) setting) f) kept
     (subst (λ ns. IsFinished (given_by ns (t ∷ []) setting) f) is
     (subst (λ ts. IsFinished (given_by nodes ts setting) f) those done)))
-
--- a condition makes a step
-pub condition_step : (schema : List Field) (e : Expr) (s : Step) → typed schema e ≡ Ok Lgl → s ≡ record { kind = Filter e; schema = schema } → IsStep schema s
-condition_step schema e s is same =
-    subst (λ x. IsStep schema x) (sym same)
-    record { streams = refl; fits = ap is_condition (sym (typed-unnamed schema e) ∙ is); columns = refl }

@@ -1,11 +1,10 @@
 //! The operators of a plan's nodes.
-ghost use Rattle.std.specs.Prelude.{◌≡◌, ◌<◌, ◌≤◌, ℕ, true, false, All, IfOk, OnOk, length, map, suc};
+ghost use Rattle.std.specs.Prelude.{◌≡◌, ◌<◌, ◌≤◌, true, false, All, IfOk, OnOk, length, map, suc};
 ghost use Rattle.std.specs.Arc.{arc_value};
 ghost use Rattle.column_batch.specs.Batches.{kinds_of};
 ghost use Rattle.plan_nodes.specs.Kinds.{is_source};
 ghost use Rattle.plan_nodes.specs.Plans.{IsPlan, input_kinds, node_at, meaning_at};
 ghost use Rattle.plan_store.specs.Beginning.{AreOperators};
-ghost use Rattle.op_set.specs.Joins.{is_join};
 ghost use Rattle.op_set.specs.Meanings.{meaning_of};
 ghost use Rattle.plan_runs.specs.SoFar.{AreFirst};
 
@@ -46,7 +45,6 @@ fn is_source(kind: &NodeKind) -> bool
 /// The operator of the node at a place of the plan, which is no source.
 fn operator_at(alloc: Global, nodes: &[Node], place: usize, batch: u32) -> Mem<Arc<AnyOp, Global>>
     requires plan { IsPlan nodes.now }
-    requires no_join { (n : ℕ) → is_join (node_at nodes.now n).kind ≡ false }
     requires sized { 0 < batch }
     requires place { place < length nodes.now }
     requires no_source { is_source (node_at nodes.now (suc place)).kind ≡ false }
@@ -66,7 +64,6 @@ fn add_operator(
     ops: &mut Seq<Arc<AnyOp, Global>>,
 ) -> Mem<()>
     requires plan { IsPlan nodes.now }
-    requires no_join { (n : ℕ) → is_join (node_at nodes.now n).kind ≡ false }
     requires sized { 0 < batch }
     requires place { place < length nodes.now }
     requires so_far { AreFirst meaning_of nodes.now batch place ops.old }
@@ -79,11 +76,10 @@ fn add_operator(
     ops.push(op)
 }
 
-/// An operator for each node of a plan without joins that is no source, in the order of the plan, where batches have `batch`
-/// rows. The only error is want of memory.
+/// An operator for each node of a plan that is no source, in the order of the plan, where batches have `batch` rows. The only
+/// error is want of memory.
 pub fn operators_of(alloc: Global, plan: &Plan, batch: u32) -> Mem<Seq<Arc<AnyOp, Global>>>
     requires plan { IsPlan plan.now.nodes }
-    requires no_join { (n : ℕ) → is_join (node_at plan.now.nodes n).kind ≡ false }
     requires sized { 0 < batch }
     ensures { IfOk result (λ ops. AreOperators meaning_of plan.now.nodes batch ops) }
 {

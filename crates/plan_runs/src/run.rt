@@ -1,12 +1,11 @@
 //! A plan, run on one worker.
-ghost use Rattle.std.specs.Prelude.{◌≡◌, ◌≤◌, ℕ, false, length, IfOk};
+ghost use Rattle.std.specs.Prelude.{◌≤◌, length, IfOk};
 ghost use Rattle.plan_machine.specs.Driver.{IsDriven};
 ghost use Rattle.plan_bounds.specs.Bounds.{most_entries};
-ghost use Rattle.plan_nodes.specs.Plans.{IsPlan, node_at};
+ghost use Rattle.plan_nodes.specs.Plans.{IsPlan};
 ghost use Rattle.plan_store.specs.Told.{plan_of, given_by, pace_of, rows_of_tables};
 ghost use Rattle.plan_store.specs.Beginning.{AreTables, IsSetting};
 ghost use Rattle.task_core.specs.Opening.{IsFinished};
-ghost use Rattle.op_set.specs.Joins.{is_join};
 
 use crate::operators::operators_of;
 use plan_nodes::Plan;
@@ -17,8 +16,8 @@ use std::sync::Arc;
 use std::thread::Threads;
 use worker_run::{Finished, Setting, run_alone};
 
-/// Runs a plan without joins on one worker, over a table for each of its sources in the order of the plan: its rows, its
-/// history, and the peak of each edge. It always returns; the only error is want of memory.
+/// Runs a plan on one worker, over a table for each of its sources in the order of the plan: its rows, its history, and the
+/// peak of each edge. It always returns; the only error is want of memory.
 pub fn run_plan<R: Threads + Sync>(
     rt: &R,
     alloc: Global,
@@ -28,7 +27,6 @@ pub fn run_plan<R: Threads + Sync>(
 ) -> Mem<Finished>
     requires planned { IsPlan plan.now.nodes }
     requires nodes { length plan.now.nodes ≤ 256 }
-    requires no_join { (n : ℕ) → is_join (node_at plan.now.nodes n).kind ≡ false }
     requires tables { AreTables plan.now.nodes sources }
     requires setting { IsSetting setting }
     ensures finished { IfOk result (IsFinished (given_by plan.now.nodes sources setting)) }

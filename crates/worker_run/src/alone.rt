@@ -21,8 +21,8 @@ use std::thread::Threads;
 use task_core::{Ending, Finished, PlanState, Setting};
 use task_work::run_task;
 
-/// Adds the upkeep that is due.
-fn keep_up<O: Operator>(state: &mut PlanState<O>, due: Entry)
+/// Adds the upkeep that is due, which is the first of Stop, Pause, Finish and Resume that is enabled.
+pub fn keep_up<O: Operator>(state: &mut PlanState<O>, due: Entry)
     requires chosen { IsUpkeepChoice (plan_of state.old.given) (state_of state.old) due }
     requires room { 1 ≤ state.old.room }
     ensures { state.new ≡ with_entry state.old due 1 }

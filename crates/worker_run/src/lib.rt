@@ -3,5 +3,5 @@
 
 mod alone;
 
-pub use alone::run_alone;
+pub use alone::{keep_up, run_alone};
 pub use task_core::{Finished, Setting};

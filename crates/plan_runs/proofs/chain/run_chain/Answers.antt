@@ -3,9 +3,8 @@ use Rattle.std.specs.Arc.{arc_value}
 use Rattle.row_table.specs.Tables.{TableValue, fit_rows}
 use Rattle.plan_nodes.specs.Plans.{IsPlan, node_at}
 use Rattle.plan_store.specs.Beginning.{AreTables}
-use Rattle.op_set.specs.Joins.{is_join}
 use Rattle.chain_plans.specs.Chains.{AreSteps, chain_nodes}
-use Rattle.plan_runs.proofs.Chained.{no_joins, chain_length, one_table, rows_are}
+use Rattle.plan_runs.proofs.Chained.{chain_length, one_table, rows_are}
 use Rattle.plan_runs.proofs.chain.run_chain.Goals as goal
 
 pub run_plan-requires-clause-planned : goal.run_plan-requires-clause-planned
@@ -19,11 +18,6 @@ run_plan-requires-clause-nodes g c κs within =
     let few = c.requires.few in
     let long = ap length c.in_ok-plan.ensures ∙ chain_length c.args.name c.in_ok-schema.mark c.in_ok-schema.schema c.args.steps (subst (λ f. AreSteps f c.args.steps) columns c.requires.steps) in
     omega arith
-
-pub run_plan-requires-clause-no_join : goal.run_plan-requires-clause-no_join
-run_plan-requires-clause-no_join g c κs within n =
-    let columns = sym (c.in_ok-schema.ensures.head.0 ∙ ap (λ (t : TableValue). t.schema) c.deref.ensures) in
-    subst (λ ns. is_join (node_at ns n).kind ≡ false) (sym c.in_ok-plan.ensures) (no_joins c.args.name c.in_ok-schema.mark c.in_ok-schema.schema c.args.steps (subst (λ f. AreSteps f c.args.steps) columns c.requires.steps) n)
 
 pub run_plan-requires-clause-tables : goal.run_plan-requires-clause-tables
 run_plan-requires-clause-tables g c κs within =

@@ -5,7 +5,6 @@ use Rattle.column_batch.specs.Batches.{kinds_of}
 use Rattle.plan_nodes.specs.declared.node.Node.{Node}
 use Rattle.plan_nodes.specs.Kinds.{is_source, kind_meaning}
 use Rattle.plan_nodes.specs.Plans.{input_kinds, node_at}
-use Rattle.op_set.specs.Joins.{is_join}
 use Rattle.op_set.specs.Meanings.{meaning_of}
 use Rattle.plan_runs.proofs.Numbered.{node_is, inputs_within}
 use Rattle.plan_runs.proofs.operators.operator_at.Goals as goal
@@ -18,10 +17,6 @@ inputs_of-requires c =
 pub op_of-requires-clause-no_source : goal.op_of-requires-clause-no_source
 op_of-requires-clause-no_source c =
     subst (λ (v : Node). is_source v.kind ≡ false) (node_is c.args.nodes.now _ c.args.place c.index-nodes-place.result refl c.requires.place c.index-nodes-place.is) c.requires.no_source
-
-pub op_of-requires-clause-no_join : goal.op_of-requires-clause-no_join
-op_of-requires-clause-no_join c =
-    subst (λ (v : Node). is_join v.kind ≡ false) (node_is c.args.nodes.now _ c.args.place c.index-nodes-place.result refl c.requires.place c.index-nodes-place.is) (c.requires.no_join (suc c.args.place))
 
 pub returns : goal.returns
 returns c =
