@@ -1,0 +1,16 @@
+pub mod Left
+pub mod Unnamed
+pub mod Places
+pub mod Grouped
+pub mod Choices
+pub mod Moved
+pub mod Selected
+pub mod Promises
+pub mod FilterSuits
+pub mod MutateSuits
+pub mod SelectSuits
+pub mod RenameSuits
+pub mod RelocateSuits
+pub mod GroupBySuits
+pub mod MissingSuits
+pub mod Suiting

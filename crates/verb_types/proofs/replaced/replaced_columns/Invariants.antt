@@ -1,0 +1,8 @@
+use Rattle.std.proofs.Common.{◌≡◌, map, drop}
+use Rattle.term_types.specs.Faults.{all_of}
+use Rattle.term_types.proofs.Collected.{behind}
+use Rattle.verb_types.specs.Steps.{replaced_column}
+use Rattle.verb_types.proofs.replaced.replaced_columns.Given as goal
+
+abbrev pub invariant-loop-arg : goal.invariant-loop-arg
+invariant-loop-arg l = all_of (map (replaced_column l.schema) l.args) ≡ behind l.cells (all_of (map (replaced_column l.schema) (drop l.arg-index l.args)))

@@ -1,0 +1,4 @@
+pub mod CheckLaws
+pub mod Checks
+pub mod Steps
+pub mod Working
