@@ -1,0 +1,4 @@
+pub mod Kept
+pub mod Refusals
+pub mod Scopes
+pub mod Staged

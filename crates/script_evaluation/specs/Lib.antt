@@ -1,0 +1,3 @@
+pub mod Evaluation
+pub mod EvaluationLaws
+pub mod Working
