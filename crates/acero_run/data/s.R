@@ -1,1 +1,1 @@
-t |> filter(x > 5) |> select(id, x)
+t |> filter(x > 5)

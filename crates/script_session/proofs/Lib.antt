@@ -1,8 +1,5 @@
 pub mod AnswerSteps
-pub mod EachSome
-pub mod Filled
-pub mod Joined
-pub mod NumberText
-pub mod PrintedTable
+pub mod KeptTables
 pub mod ReadScripts
-pub mod SpelledBytes
+pub mod StageRuns
+pub mod TablesRead

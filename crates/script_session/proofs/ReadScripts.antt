@@ -1,5 +1,5 @@
 -- Where the first fault of a script's grammar stands, and what scripts are read as by the grammar.
-use Rattle.std.proofs.Common.{◌≡◌, ℕ, ◌<◌, Bool, true, false, List, ◌∷◌, ◌++◌, length, length-append, Option, Some, None, Result, Ok, Err, refl, sym, ap, subst, arith}
+use Rattle.std.proofs.Common.{◌≡◌, ℕ, ◌<◌, Bool, true, false, List, ◌∷◌, ◌++◌, length, length-append, Result, Ok, Err, refl, sym, ap, subst, arith}
 use Rattle.std.specs.Prelude.{if◌then◌else◌}
 use Rattle.std.specs.List.{All}
 use Rattle.std.specs.Str.{IsUtf8, is_utf8, IsCharBoundary}
@@ -19,10 +19,8 @@ use Rattle.verb_syntax.specs.declared.fault.SyntaxKind.TheVariants as syntax
 use Rattle.verb_syntax.specs.Parsing.{IsFirstFault, IsParsed}
 use Rattle.verb_syntax.specs.Parsed.{parsed, as_answer}
 use Rattle.verb_syntax.proofs.Parsed.{by_grammar}
-use Rattle.script_session.specs.declared.script.FirstScript.{FirstScript}
 use Rattle.script_session.specs.declared.script.ScriptFault.{ScriptFault}
-use Rattle.script_session.specs.FirstScript.{first_tree}
-use Rattle.script_session.specs.ReadScript.{◌>>=◌, scan_kind, syntax_kind, fault_at, on_fault, or_not_built, not_text, script_tokens, script_tree, read_text, read_script}
+use Rattle.script_session.specs.ReadScript.{◌>>=◌, scan_kind, syntax_kind, fault_at, on_fault, not_text, script_tokens, script_tree, read_text, read_script}
 use Rattle.script_session.specs.Laws.{HasTree, IsFaultOf, IsReadAs, ScriptsAreRead}
 
 -- ---- places
@@ -42,10 +40,6 @@ fault_stands P syntax.TooDeep tokens at end h all at_end =
 
 -- ---- by the grammar
 
-from_tree : (bytes : List ℕ) (tree : Script) → IsUtf8 bytes → HasTree bytes tree → (given : Option FirstScript) → first_tree tree ≡ given → IsReadAs bytes (or_not_built given)
-from_tree bytes tree utf8 has None e = (utf8, (tree, has, e), (refl, refl))
-from_tree bytes tree utf8 has (Some script) e = (utf8, (tree, has, e))
-
 syntax_read : (bytes : List ℕ) (tokens : List Token) → IsUtf8 bytes → tokens_of bytes ≡ Ok tokens → (what : SyntaxKind) (at : ℕ) → IsFirstFault what tokens at (length bytes)
     → IsFaultOf bytes (syntax_kind what) (place_at bytes at)
 syntax_read bytes tokens utf8 e syntax.Unexpected at h = (utf8, (tokens, at, e, h, refl))
@@ -58,12 +52,12 @@ scan_read bytes utf8 scan.OpenText at e = (utf8, (at, e, refl))
 scan_read bytes utf8 scan.NumberRange at e = (utf8, (at, e, refl))
 
 on_tree : (bytes : List ℕ) (tokens : List Token) → IsUtf8 bytes → tokens_of bytes ≡ Ok tokens → (given : Result Script SyntaxFault) → IsParsed (as_answer given) tokens (length bytes)
-    → IsReadAs bytes (on_fault (λ (f : SyntaxFault). fault_at bytes (syntax_kind f.kind) f.at) given >>= (λ tree. or_not_built (first_tree tree)))
-on_tree bytes tokens utf8 e (Ok tree) d = from_tree bytes tree utf8 (tokens, e, d.0, d.1) (first_tree tree) refl
+    → IsReadAs bytes (on_fault (λ (f : SyntaxFault). fault_at bytes (syntax_kind f.kind) f.at) given)
+on_tree bytes tokens utf8 e (Ok tree) d = (utf8, (tokens, e, d.0, d.1))
 on_tree bytes tokens utf8 e (Err f) d = syntax_read bytes tokens utf8 e f.kind f.at d
 
 on_tokens : (bytes : List ℕ) → IsUtf8 bytes → (given : Result (List Token) ScanFault) → tokens_of bytes ≡ given
-    → IsReadAs bytes (on_fault (λ (f : ScanFault). fault_at bytes (scan_kind f.kind) f.at) given >>= (λ tokens. script_tree bytes tokens >>= (λ tree. or_not_built (first_tree tree))))
+    → IsReadAs bytes (on_fault (λ (f : ScanFault). fault_at bytes (scan_kind f.kind) f.at) given >>= script_tree bytes)
 unfolding script_tree
 on_tokens bytes utf8 (Ok tokens) e = on_tree bytes tokens utf8 e (parsed tokens (length bytes)) (by_grammar tokens (length bytes))
 on_tokens bytes utf8 (Err f) e = scan_read bytes utf8 f.kind f.at e

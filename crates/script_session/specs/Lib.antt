@@ -1,13 +1,6 @@
-pub mod Steps
-pub mod Names
-pub mod Numbers
-pub mod FirstWords
-pub mod FirstScript
 pub mod ReadScript
-pub mod FirstTable
-pub mod Verbs
-pub mod CsvText
 pub mod FaultLines
+pub mod RunRecord
 pub mod Answer
 pub mod Outcome
 pub mod Laws

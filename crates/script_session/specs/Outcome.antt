@@ -1,19 +1,31 @@
 -- The words by which the top call says what it did: which reads failed, what the output and the line of a
 -- refusal took, and with which status.
-use Rattle.std.specs.Prelude.{◌≡◌, ℕ, ◌<◌, ◌≤◌, List, [], ◌∷◌, length, take, ◌⊎◌, Option, Some, None, Result, Ok, Err}
+use Rattle.std.specs.Prelude.{◌≡◌, ℕ, ◌<◌, ◌≤◌, List, [], ◌∷◌, length, take, Contains, ◌⊎◌, Option, Some, None, Result, Ok, Err}
 use Rattle.scalar_value.specs.declared.memory.Or.{Or}
 use Rattle.scalar_value.specs.declared.memory.Or.TheVariants.{Fault, Memory}
 use Rattle.outside_io.specs.Counts.{Rose, FailedAt, GrewAt, NoneRose}
 use Rattle.outside_io.specs.Outside.{Held, Takes, TakesPart}
+use Rattle.csv_source.specs.declared.fault.TableFault.{TableFault}
+use Rattle.command_words.specs.declared.words.Words.{Words}
+use Rattle.command_words.specs.declared.words.BadWords.{BadWords}
+use Rattle.command_words.specs.Settings.{settings_of}
 use Rattle.script_session.specs.declared.status.Status.{Status}
 use Rattle.script_session.specs.declared.status.Status.TheVariants as status
 use Rattle.script_session.specs.declared.status.Refusal.{Refusal}
 use Rattle.script_session.specs.declared.status.Stop.{Stop}
 use Rattle.script_session.specs.declared.status.Stop.TheVariants.{Refused, Unread}
-use Rattle.script_session.specs.declared.words.Words.{Words}
+use Rattle.script_session.specs.declared.status.Answered.{Answered}
 use Rattle.script_session.specs.declared.script.ScriptFault.{ScriptFault}
-use Rattle.script_session.specs.FirstWords.{words_of}
-use Rattle.script_session.specs.Answer.{answer, paths_of, named_paths, paths_reached}
+use Rattle.row_table.specs.Tables.{TableValue}
+use Rattle.plan_store.specs.declared.setting.Setting.{Setting}
+use Rattle.chain_plans.specs.Chains.{chain_rows}
+use Rattle.verb_meaning.specs.Meaning.{table_with}
+use Rattle.plan_compile.specs.Trees.{plan_of}
+use Rattle.script_evaluation.specs.declared.stage.Stage.{Stage}
+use Rattle.script_evaluation.specs.Evaluation.{Evaluated}
+use Rattle.script_session.specs.declared.stage.Ran.{Ran}
+use Rattle.script_session.specs.RunRecord.{Planned, IsRunOf, AreRuns}
+use Rattle.script_session.specs.Answer.{answer, planned_at, printed, printed_of, paths_of, named_paths, paths_reached}
 use Rattle.script_session.specs.FaultLines.{usage_line, script_line, table_line, unread_line, long_line, write_line, memory_line}
 
 abbrev pub IsAmong : List ℕ → List (List ℕ) → Type 0
@@ -82,6 +94,10 @@ OnSilent status.Memory P = Unit {0}
 abbrev pub IsScriptLine : List ℕ → List ℕ → Type 0
 IsScriptLine path line = (fault : ScriptFault) × (line ≡ script_line path fault)
 
+-- the line tells a fault of a table that the words name
+abbrev pub IsTableLine : Words → List ℕ → Type 0
+IsTableLine named line = (word : List ℕ × List ℕ) × Contains named.tables word × (fault : TableFault) × (line ≡ table_line word.0 fault)
+
 -- The line of a refusal, by its status. For Read a read of a path of the words failed, and the answer comes
 -- to that path; or no read failed, and the file of such a path is too long.
 module _ (words : List (List ℕ)) (told : Option Held) (of_before of_now : List ℕ → Option ℕ) (before now : ℕ) where
@@ -93,8 +109,8 @@ module _ (words : List (List ℕ)) (told : Option Held) (of_before of_now : List
   abbrev pub IsFaultLine : Status → List ℕ → Type 0
   IsFaultLine status.Done line = ⊥
   IsFaultLine status.Usage line = line ≡ usage_line
-  IsFaultLine status.Script line = (named : Words) × (words_of words ≡ Some named) × IsScriptLine named.script line
-  IsFaultLine status.Table line = (named : Words) × (words_of words ≡ Some named) × (line ≡ table_line named.name)
+  IsFaultLine status.Script line = (named : Words) × (settings_of words ≡ Ok named) × IsScriptLine named.script line
+  IsFaultLine status.Table line = (named : Words) × (settings_of words ≡ Ok named) × IsTableLine named line
   IsFaultLine status.Read line = (path : List ℕ) × IsNamed words path × IsReadLine path line
   IsFaultLine status.Write line = line ≡ write_line
   IsFaultLine status.Memory line = line ≡ memory_line
@@ -113,6 +129,62 @@ Comes (Err (Fault (Refused refusal))) given = given ≡ Err refusal
 Comes (Err (Fault (Unread path))) given = Unit {0}
 Comes (Err Memory) given = Unit {0}
 
+-- the same, where a relation ties it to what is given
+abbrev pub ComesBy : {T A : Type 0} → (A → T → Type 0) → Result T (Or Stop) → Result A Refusal → Type 0
+ComesBy {T} {A} R (Ok x) given = (a : A) × (given ≡ Ok a) × R a x
+ComesBy R (Err (Fault (Refused refusal))) given = given ≡ Err refusal
+ComesBy R (Err (Fault (Unread path))) given = Unit {0}
+ComesBy R (Err Memory) given = Unit {0}
+
+-- what is printed of a plan and its run, with that run
+pub record IsAnswered (words : Words) (p : Planned) (a : Answered) : Type 0 where
+  pub text : a.text ≡ printed words p a.runs
+  pub runs : AreRuns (p ∷ []) a.runs
+
+-- the answer is that of these words and files, where the record is this answer's own; of a refusal it is whatever the record
+abbrev pub IsAnswerTo : List (List ℕ) → Held → Result Answered (Or Stop) → Type 0
+IsAnswerTo words held (Ok a) = answer words held a.runs ≡ Ok a.text
+IsAnswerTo words held (Err (Fault (Refused refusal))) = answer words held [] ≡ Err refusal
+IsAnswerTo words held (Err (Fault (Unread path))) = Unit {0}
+IsAnswerTo words held (Err Memory) = Unit {0}
+
+-- the runs are those of the plans; a refusal has none
+abbrev pub HasRuns : Result Answered (Or Stop) → List Planned → Type 0
+HasRuns (Ok a) plans = AreRuns plans a.runs
+HasRuns (Err (Fault (Refused refusal))) plans = plans ≡ []
+HasRuns (Err (Fault (Unread path))) plans = Unit {0}
+HasRuns (Err Memory) plans = Unit {0}
+
+-- the plan of a stage over the table that it begins with
+abbrev pub planned_run : Setting → Stage → TableValue → Planned
+planned_run setting stage source =
+    record { nodes = plan_of stage.tree; sources = source.rows ∷ []; setting = setting; table = table_with stage.shape (chain_rows stage.tree.steps source.rows) }
+
+-- the table that a plan means, and its run
+pub record IsRan (p : Planned) (ran : Ran) : Type 0 where
+  pub table : ran.table ≡ p.table
+  pub run : IsRunOf p ran.run
+
+-- the plan of what a script means ran, or its fault is told
+abbrev pub RunsMeaning : Setting → Result Ran (Or ScriptFault) → Result Evaluated ScriptFault → Type 0
+RunsMeaning setting (Ok ran) given = (e : Evaluated) × (given ≡ Ok e) × IsRan (planned_at setting e) ran
+RunsMeaning setting (Err (Fault fault)) given = given ≡ Err fault
+RunsMeaning setting (Err Memory) given = Unit {0}
+
+-- what is printed of what a plan gave, with its run
+pub record IsPrintedOf (words : Words) (ran : Ran) (a : Answered) : Type 0 where
+  pub text : a.text ≡ printed_of words ran.table a.runs
+  pub runs : a.runs ≡ ran.run ∷ []
+
+-- the file at the path is too long
+abbrev pub IsTooLong : List ℕ → Refusal → Type 0
+IsTooLong path refusal = (refusal.status ≡ status.Read) × (refusal.line ≡ long_line path)
+
+-- a refusal of a TABLE word: a fault of its table, or its file is too long
+abbrev pub IsTableStop : List ℕ × List ℕ → Refusal → Type 0
+IsTableStop word refusal =
+    ((refusal.status ≡ status.Table) × ((fault : TableFault) × (refusal.line ≡ table_line word.0 fault))) ⊎ IsTooLong word.1 refusal
+
 -- P of a refusal, and Q of a path whose read failed
 abbrev pub StopsBy : {T : Type 0} → Result T (Or Stop) → (Refusal → Type 0) → (List ℕ → Type 0) → Type 0
 StopsBy (Ok x) P Q = Unit {0}
@@ -127,24 +199,20 @@ ByUnread (Err (Fault (Refused refusal))) P Q = Q
 ByUnread (Err (Fault (Unread path))) P Q = P path
 ByUnread (Err Memory) P Q = Unit {0}
 
--- the file at the path is too long
-abbrev pub IsTooLong : List ℕ → Refusal → Type 0
-IsTooLong path refusal = (refusal.status ≡ status.Read) × (refusal.line ≡ long_line path)
-
 -- a refusal of what the accepted words name, by its status
 abbrev pub IsRefusedOf : Words → Status → List ℕ → Type 0
 IsRefusedOf named status.Done line = ⊥
 IsRefusedOf named status.Usage line = ⊥
 IsRefusedOf named status.Script line = IsScriptLine named.script line
-IsRefusedOf named status.Table line = line ≡ table_line named.name
-IsRefusedOf named status.Read line = (path : List ℕ) × IsAmong path (paths_of (Some named)) × (line ≡ long_line path)
+IsRefusedOf named status.Table line = IsTableLine named line
+IsRefusedOf named status.Read line = (path : List ℕ) × IsAmong path (paths_of (Ok named)) × (line ≡ long_line path)
 IsRefusedOf named status.Write line = ⊥
 IsRefusedOf named status.Memory line = ⊥
 
 -- a refusal of the words, or of what they name
 abbrev pub IsRefused : List (List ℕ) → Status → List ℕ → Type 0
-IsRefused words status.Usage line = (words_of words ≡ None) × (line ≡ usage_line)
-IsRefused words ended line = (named : Words) × (words_of words ≡ Some named) × IsRefusedOf named ended line
+IsRefused words status.Usage line = (settings_of words ≡ Err (record {})) × (line ≡ usage_line)
+IsRefused words ended line = (named : Words) × (settings_of words ≡ Ok named) × IsRefusedOf named ended line
 
 -- where the words are refused, that is the answer, or there is no memory
 abbrev pub IsUsage : {T : Type 0} → Result T (Or Stop) → Type 0

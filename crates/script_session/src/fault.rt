@@ -1,9 +1,10 @@
 ghost use Rattle.std.specs.Prelude.{◌≡◌, IfOk};
-ghost use Rattle.script_session.specs.FaultLines.{script_line, table_line, unread_line, long_line};
-ghost use Rattle.script_session.specs.Answer.{bad_words, bad_script, not_built_table, too_long};
+ghost use Rattle.script_session.specs.FaultLines.{script_line, table_text, table_line, unread_line, long_line};
+ghost use Rattle.script_session.specs.Answer.{bad_words, bad_script, bad_table, too_long};
 
 use crate::script::ScriptFault;
 use crate::status::{Refusal, Status};
+use csv_source::{TableFault, TableKind};
 use scalar_value::{Mem, Text};
 use std::alloc::Global;
 
@@ -43,12 +44,36 @@ pub fn bad_script(alloc: Global, path: &str, fault: ScriptFault) -> Mem<Refusal>
     })
 }
 
-pub fn not_built_table(alloc: Global, name: &str) -> Mem<Refusal>
-    ensures { IfOk result (λ r. r ≡ not_built_table name.now) }
+// The word by which a fault's line tells a table's fault.
+fn table_text(kind: TableKind) -> &'static str
+    ensures { result.now ≡ table_text kind }
+{
+    match kind {
+        TableKind::NotText => "NotText",
+        TableKind::NoHeader => "NoHeader",
+        TableKind::TooManyColumns => "TooManyColumns",
+        TableKind::HeaderType => "HeaderType",
+        TableKind::NameTwice => "NameTwice",
+        TableKind::Ragged => "Ragged",
+        TableKind::BadField => "BadField",
+    }
+}
+
+pub fn table_line(alloc: Global, name: &str, fault: TableFault) -> Mem<Text>
+    ensures { IfOk result (λ t. t ≡ table_line name.now fault) }
+{
+    let kind = table_text(fault.kind);
+    let row = fault.row;
+    let column = fault.column;
+    Ok(Text::of_string(format!(in alloc; "acero_run: {name}: {kind} row {row} column {column}\n")?))
+}
+
+pub fn bad_table(alloc: Global, name: &str, fault: TableFault) -> Mem<Refusal>
+    ensures { IfOk result (λ r. r ≡ bad_table name.now fault) }
 {
     Ok(Refusal {
         status: Status::Table,
-        line: Text::of_string(format!(in alloc; "acero_run: {name}: NotBuilt row 0 column 0\n")?),
+        line: table_line(alloc, name, fault)?,
     })
 }
 

@@ -2,26 +2,22 @@
 #![tactic(auto)]
 
 mod answer;
-mod each;
 mod fault;
 mod laws;
-mod names;
-mod numbers;
-mod print;
+mod printing;
 mod reading;
 mod run;
 mod script;
+mod stage;
 mod status;
-mod table;
-mod tree;
-mod verbs;
-mod words;
+mod tables;
 
-pub use laws::{printed_is_read, scripts_are_read};
+pub use command_words::{BadWords, Words, settings};
+pub use laws::scripts_are_read;
 pub use run::run_single;
-pub use script::{Comparison, FirstScript, ScriptFault, ScriptKind};
-pub use status::{PlanRun, Refusal, RunRecord, Status};
-pub use words::{BadWords, Words};
+pub use run_report::{PlanRun, RunRecord};
+pub use script::{ScriptFault, ScriptKind};
+pub use status::{Refusal, Status};
 
 #[cfg(test)]
 mod tests;

@@ -2,11 +2,9 @@ ghost use Rattle.std.specs.Prelude.{◌≡◌, ◌≤◌, ◌^◌, All, length, 
 ghost use Rattle.std.specs.Str.{IsCharBoundary};
 ghost use Rattle.scalar_value.specs.Gives.{Gives};
 ghost use Rattle.token_scan.specs.Spans.{AreInOrder};
-ghost use Rattle.script_session.specs.ReadScript.{scan_kind, syntax_kind, or_not_built, script_tokens, script_tree, read_text, read_script};
-ghost use Rattle.script_session.specs.FirstScript.{first_tree as first_script_of};
+ghost use Rattle.script_session.specs.ReadScript.{scan_kind, syntax_kind, script_tokens, script_tree, read_text, read_script};
 
-use crate::script::{FirstScript, NotBuilt, ScriptFault, ScriptKind};
-use crate::tree::first_tree;
+use crate::script::{ScriptFault, ScriptKind};
 use scalar_value::{Or, Res, Seq};
 use std::alloc::Global;
 use std::str;
@@ -69,34 +67,23 @@ fn script_tree(alloc: Global, script: &str, tokens: &[Token]) -> Res<Script, Scr
     }
 }
 
-fn first_of(alloc: Global, tree: &Script) -> Res<FirstScript, ScriptFault>
-    ensures { Gives result (or_not_built (first_script_of tree.now)) }
-{
-    match first_tree(alloc, tree) {
-        Ok(script) => Ok(script),
-        Err(Or::Fault(NotBuilt)) => Err(Or::Fault(ScriptFault::at_start(ScriptKind::NotBuilt))),
-        Err(Or::Memory) => Err(Or::Memory),
-    }
-}
-
 #[tactic(auto, unfolding(crate::specs::ReadScript::read_text))]
-fn read_text(alloc: Global, script: &str) -> Res<FirstScript, ScriptFault>
+fn read_text(alloc: Global, script: &str) -> Res<Script, ScriptFault>
     requires { length script.now ≤ 2 ^ 20 }
     ensures { Gives result (read_text script.now) }
 {
     let tokens = script_tokens(alloc, script)?;
-    let tree = script_tree(alloc, script, tokens.as_slice())?;
-    first_of(alloc, &tree)
+    script_tree(alloc, script, tokens.as_slice())
 }
 
-/// The first script that the bytes are, or their first fault.
+/// The script that the bytes are, or their first fault.
 #[tactic(auto, unfolding(crate::specs::ReadScript::read_script))]
-pub fn read_script(alloc: Global, bytes: &[u8]) -> Res<FirstScript, ScriptFault>
+pub fn read_script(alloc: Global, bytes: &[u8]) -> Res<Script, ScriptFault>
     requires { length bytes.now ≤ 2 ^ 20 }
     ensures { Gives result (read_script bytes.now) }
 {
     match str::from_utf8(bytes) {
         Ok(script) => read_text(alloc, script),
-        Err(_) => Err(Or::Fault(ScriptFault::at_start(ScriptKind::NotText))),
+        Err(_) => Err(Or::Fault(ScriptFault::not_text())),
     }
 }

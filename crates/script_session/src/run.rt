@@ -1,9 +1,10 @@
-ghost use Rattle.std.specs.Prelude.{◌≡◌, ◌<◌, ◌⊎◌, [], List, ℕ, Option, Some, None, Ok, map};
+ghost use Rattle.std.specs.Prelude.{◌≡◌, ◌<◌, ◌⊎◌, [], List, ℕ, Option, Some, Ok, Err, map};
 ghost use Rattle.std.specs.String.{string_bytes};
 ghost use Rattle.outside_io.specs.Counts.{Rose, NoneRose};
 ghost use Rattle.outside_io.specs.Outside.{Held};
-ghost use Rattle.script_session.specs.FirstWords.{words_of};
-ghost use Rattle.script_session.specs.Answer.{answer};
+ghost use Rattle.command_words.specs.Settings.{settings_of};
+ghost use Rattle.script_session.specs.Answer.{answer, plans};
+ghost use Rattle.script_session.specs.RunRecord.{IsRecord};
 ghost use Rattle.script_session.specs.Outcome.{NamedReadFailed, NamedReadGrew, WritesLine, TellsLine, IsFaultLine, IsAnswer, IsTaken, IsGiven, IsReadOrMemory, IsWriteOrMemory, IsUsageOrMemory, OnSilent, IsWritten, IsWriteTold};
 ghost use Rattle.script_session.specs.FaultLines.{memory_line};
 ghost use Rattle.script_session.specs.Laws.{ScriptsAreRead};
@@ -11,8 +12,9 @@ ghost use Rattle.script_session.specs.Laws.{ScriptsAreRead};
 use crate::answer::answer;
 use crate::fault::{MEMORY_LINE, WRITE_LINE, unread_line};
 use crate::laws::scripts_are_read;
-use crate::status::{RunRecord, Status, Stop};
+use crate::status::{Status, Stop};
 use outside_io::{Failed, Files, Sink, write_all};
+use run_report::RunRecord;
 use scalar_value::{NoMemory, Or, Seq};
 use std::alloc::Global;
 use std::thread::Threads;
@@ -32,7 +34,7 @@ fn tell<E: Sink>(err: &mut E, line: &str)
 /// The result is written to `out`; a refusal's one line to `err`. `journal` is emptied first. Nothing is written
 /// to `out` before the whole result is known.
 pub fn run_single<R: Threads + Sync, F: Files, O: Sink, E: Sink>(
-    _rt: &R,
+    rt: &R,
     alloc: Global,
     words: &[String],
     files: &mut F,
@@ -45,11 +47,11 @@ pub fn run_single<R: Threads + Sync, F: Files, O: Sink, E: Sink>(
     ensures answered { (held : Held) → F.held files.old ≡ Some held
         → (NamedReadFailed (map (λ w. string_bytes w) words.now) (F.faults_of files.old) (F.faults_of files.new) (F.faults files.old) (F.faults files.new) → ⊥)
         → (Rose (O.faults out.old) (O.faults out.new) → ⊥)
-        → IsAnswer (answer (map (λ w. string_bytes w) words.now) held) result (O.taken out.old) (O.taken out.new) (E.faults err.old) (E.faults err.new) (E.taken err.old) (E.taken err.new) }
+        → IsAnswer (answer (map (λ w. string_bytes w) words.now) held journal.new.runs) result (O.taken out.old) (O.taken out.new) (E.faults err.old) (E.faults err.new) (E.taken err.old) (E.taken err.new) }
 
     // Usage comes exactly where the words are refused.
-    ensures usage { (result ≡ Status.Usage → words_of (map (λ w. string_bytes w) words.now) ≡ None)
-        × (words_of (map (λ w. string_bytes w) words.now) ≡ None → IsUsageOrMemory result) }
+    ensures usage { (result ≡ Status.Usage → settings_of (map (λ w. string_bytes w) words.now) ≡ Err (record {}))
+        × (settings_of (map (λ w. string_bytes w) words.now) ≡ Err (record {}) → IsUsageOrMemory result) }
 
     // Where a named read failed the status is Read; where the output failed it is Write.
     ensures read_failed { NamedReadGrew (map (λ w. string_bytes w) words.now) (F.faults_of files.old) (F.faults_of files.new) (F.faults files.old) (F.faults files.new) → IsReadOrMemory result }
@@ -57,19 +59,26 @@ pub fn run_single<R: Threads + Sync, F: Files, O: Sink, E: Sink>(
 
     // Write comes only where the output failed, and only where the answer is no refusal.
     ensures write_cause { result ≡ Status.Write → Rose (O.faults out.old) (O.faults out.new) }
-    ensures write_answer { (held : Held) → F.held files.old ≡ Some held → (O.faults out.old < O.faults out.new) ⊎ (result ≡ Status.Write) → IsGiven (answer (map (λ w. string_bytes w) words.now) held) }
+    ensures write_answer { (held : Held) → F.held files.old ≡ Some held → (O.faults out.old < O.faults out.new) ⊎ (result ≡ Status.Write) → IsGiven (answer (map (λ w. string_bytes w) words.now) held journal.new.runs) }
 
     // Done comes only where no read failed and the output had no fault.
     ensures done { result ≡ Status.Done → NoneRose (F.faults files.old) (F.faults files.new) (F.faults_of files.old) (F.faults_of files.new) × (O.faults out.new ≡ O.faults out.old) }
 
     // What the output took is a front of the answer's bytes, for Done all of them, and nothing for a refusal.
-    ensures part { (held : Held) → F.held files.old ≡ Some held → IsTaken result (answer (map (λ w. string_bytes w) words.now) held) (O.taken out.old) (O.taken out.new) }
+    ensures part { (held : Held) → F.held files.old ≡ Some held → IsTaken result (answer (map (λ w. string_bytes w) words.now) held journal.new.runs) (O.taken out.old) (O.taken out.new) }
     ensures silent { OnSilent result ((O.taken out.new ≡ O.taken out.old) × (O.faults out.new ≡ O.faults out.old)) }
 
     // What err took is a front of the status's line, all of it where its count didn't rise, and nothing for Done.
     ensures line { TellsLine result (E.faults err.old) (E.faults err.new) (E.taken err.old) (E.taken err.new)
         (IsFaultLine (map (λ w. string_bytes w) words.now) (F.held files.old) (F.faults_of files.old) (F.faults_of files.new) (F.faults files.old) (F.faults files.new) result) }
-    ensures record { journal.new.runs ≡ [] }
+
+    // The record has a run for each plan of the answer, in their order: its history is legal and ended with the rows of the
+    // plan's meaning, and no edge held more than the pause threshold and one batch. Where memory was refused it has a front of
+    // them, and where a named read failed none.
+    ensures record { (held : Held) → F.held files.old ≡ Some held
+        → (NamedReadFailed (map (λ w. string_bytes w) words.now) (F.faults_of files.old) (F.faults_of files.new) (F.faults files.old) (F.faults files.new) → ⊥)
+        → IsRecord result (plans (map (λ w. string_bytes w) words.now) held) journal.new.runs }
+    ensures unread { NamedReadGrew (map (λ w. string_bytes w) words.now) (F.faults_of files.old) (F.faults_of files.new) (F.faults files.old) (F.faults files.new) → journal.new.runs ≡ [] }
     ensures held { F.held files.new ≡ F.held files.old }
 
     // What `answer` reads a script as is what its tokens and the grammar say, and so is a fault with its place.
@@ -77,8 +86,11 @@ pub fn run_single<R: Threads + Sync, F: Files, O: Sink, E: Sink>(
 {
     scripts_are_read();
     journal.runs = Seq::new(alloc);
-    match answer(alloc, files, words) {
-        Ok(text) => write_result(out, err, text.as_str()),
+    match answer(rt, alloc, files, words) {
+        Ok(answered) => {
+            journal.runs = answered.runs;
+            write_result(out, err, answered.text.as_str())
+        }
         Err(Or::Fault(Stop::Refused(refusal))) => {
             tell(err, refusal.line.as_str());
             refusal.status

@@ -1,34 +1,9 @@
 ghost use Rattle.std.specs.Prelude.{◌≡◌};
-ghost use Rattle.script_session.specs.FaultLines.{kind_text};
-ghost use Rattle.script_session.specs.ReadScript.{fault_at_start};
+ghost use Rattle.script_session.specs.FaultLines.{verb_text, kind_text};
+ghost use Rattle.script_session.specs.ReadScript.{not_text};
 
-use scalar_value::{Seq, Text};
 use token_scan::Place;
-
-/// The six comparisons of two numbers.
-#[derive(Debug, Clone, Copy, PartialEq, Eq)]
-pub enum Comparison {
-    Equal,
-    NotEqual,
-    Less,
-    LessEqual,
-    Greater,
-    GreaterEqual,
-}
-
-/// The script `table |> filter(column comparison limit) |> select(chosen)`.
-#[derive(Debug, Drop)]
-pub struct FirstScript {
-    pub table: Text,
-    pub column: Text,
-    pub comparison: Comparison,
-    pub limit: i64,
-    pub chosen: Seq<Text>,
-}
-
-/// The form isn't built yet.
-#[derive(Debug, Clone, Copy, PartialEq, Eq)]
-pub struct NotBuilt;
+use verb_types::VerbKind;
 
 /// A script's first fault, and the place where it stands.
 #[derive(Debug, Clone, Copy, PartialEq, Eq)]
@@ -38,7 +13,7 @@ pub struct ScriptFault {
 }
 
 /// What is wrong with a script: it isn't UTF-8; it isn't made of tokens; its tokens don't follow the grammar, go on
-/// too deep or end too early; or its form isn't built yet.
+/// too deep or end too early; a verb's call has a fault; or a plan would have too many nodes.
 #[derive(Debug, Clone, Copy, PartialEq, Eq)]
 pub enum ScriptKind {
     NotText,
@@ -48,7 +23,31 @@ pub enum ScriptKind {
     Unexpected,
     Unfinished,
     TooDeep,
-    NotBuilt,
+    Verb(VerbKind),
+    PlanTooLarge,
+}
+
+// The word by which a fault's line tells a verb's fault.
+fn verb_text(kind: VerbKind) -> &'static str
+    ensures { result.now ≡ verb_text kind }
+{
+    match kind {
+        VerbKind::UnknownTable => "UnknownTable",
+        VerbKind::UnknownColumn => "UnknownColumn",
+        VerbKind::UnknownFunction => "UnknownFunction",
+        VerbKind::WrongType => "WrongType",
+        VerbKind::WrongArguments => "WrongArguments",
+        VerbKind::DuplicateName => "DuplicateName",
+        VerbKind::GroupChanged => "GroupChanged",
+        VerbKind::ByOnGroups => "ByOnGroups",
+        VerbKind::NotSummary => "NotSummary",
+        VerbKind::SummaryReuse => "SummaryReuse",
+        VerbKind::NoCommonKey => "NoCommonKey",
+        VerbKind::NoOrdering => "NoOrdering",
+        VerbKind::GroupGone => "GroupGone",
+        VerbKind::OutOfProfile => "OutOfProfile",
+        VerbKind::NotBuilt => "NotBuilt",
+    }
 }
 
 impl ScriptKind {
@@ -64,18 +63,19 @@ impl ScriptKind {
             ScriptKind::Unexpected => "Unexpected",
             ScriptKind::Unfinished => "Unfinished",
             ScriptKind::TooDeep => "TooDeep",
-            ScriptKind::NotBuilt => "NotBuilt",
+            ScriptKind::Verb(kind) => verb_text(kind),
+            ScriptKind::PlanTooLarge => "PlanTooLarge",
         }
     }
 }
 
 impl ScriptFault {
-    /// A fault of the script as a whole, which stands at its start.
-    pub fn at_start(kind: ScriptKind) -> ScriptFault
-        ensures { result ≡ fault_at_start kind }
+    /// The fault of a script that isn't UTF-8, which stands at its start.
+    pub fn not_text() -> ScriptFault
+        ensures { result ≡ not_text }
     {
         ScriptFault {
-            kind,
+            kind: ScriptKind::NotText,
             place: Place { line: 1, column: 1 },
         }
     }

@@ -1,3 +1,4 @@
+use run_report::PlanRun;
 use scalar_value::{Seq, Text};
 
 /// How a command ended.
@@ -33,18 +34,9 @@ pub enum Stop {
     Unread(Text),
 }
 
-/// What one run of a plan was: its setting, and the greatest number of batches that waited on each edge.
+/// The text of a result, and the runs that gave it.
 #[derive(Debug, Drop)]
-pub struct PlanRun {
-    pub batch: u32,
-    pub workers: u32,
-    pub pause: u32,
-    pub resume: u32,
-    pub peaks: Seq<u32>,
-}
-
-/// The runs of a command, in their order.
-#[derive(Debug, Drop)]
-pub struct RunRecord {
+pub struct Answered {
+    pub text: Text,
     pub runs: Seq<PlanRun>,
 }

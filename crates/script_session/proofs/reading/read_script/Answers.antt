@@ -8,4 +8,4 @@ returns-in-Ok c =
     rw (text_read c.args.bytes.now cases.1) (rw cases.0 at c.read_text.ensures)
 
 pub returns-in-Err : goal.returns-in-Err
-returns-in-Err c = no_text_read c.args.bytes.now c.in-Err.ensures.cases.0 ∙ ap (λ f. Err f) (sym c.at_start.ensures)
+returns-in-Err c = no_text_read c.args.bytes.now c.in-Err.ensures.cases.0 ∙ ap (λ f. Err f) (sym c.not_text.ensures)

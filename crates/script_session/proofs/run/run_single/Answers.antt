@@ -6,8 +6,8 @@ use Rattle.script_session.proofs.run.run_single.Goals as goal
 pub returns-in-Err-Fault-Refused-clause-answered : goal.returns-in-Err-Fault-Refused-clause-answered
 returns-in-Err-Fault-Refused-clause-answered g c = λ held p n w.
     let r = c.in-Err-Fault-Refused in
-    let h = rw (r.field-0-is, r.field-0-0-is) at r.ensures.known held p in
-    refused_answer _ r.refusal _ _ _ _ _ h (rw c.as_str-in-Err-Fault-Refused.ensures.value at c.tell.ensures)
+    let h = rw (r.field-0-is, r.field-0-0-is) at r.ensures.text held p in
+    refused_answer _ r.refusal _ _ _ _ _ (rw c.new.ensures h) (rw c.as_str-in-Err-Fault-Refused.ensures.value at c.tell.ensures)
 
 pub returns-in-Ok-unread_line-clause-line : goal.returns-in-Ok-unread_line-clause-line
 returns-in-Ok-unread_line-clause-line g c =

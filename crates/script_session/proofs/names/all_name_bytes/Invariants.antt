@@ -1,6 +1,0 @@
-use Rattle.std.proofs.Common.{◌≡◌, drop}
-use Rattle.script_session.specs.Names.{all_bytes, is_name_byte}
-use Rattle.script_session.proofs.names.all_name_bytes.Given as goal
-
-abbrev pub invariant-loop-byte : goal.invariant-loop-byte
-invariant-loop-byte l = all_bytes is_name_byte l.bytes ≡ all_bytes is_name_byte (drop l.byte-index l.bytes)

@@ -1,6 +1,0 @@
-use Rattle.std.proofs.Common.{◌≡◌, drop}
-use Rattle.row_table.specs.Tables.{has_name}
-use Rattle.script_session.proofs.table.has_name.Given as goal
-
-abbrev pub invariant-loop-field : goal.invariant-loop-field
-invariant-loop-field l = has_name l.name l.fields ≡ has_name l.name (drop l.field-index l.fields)
