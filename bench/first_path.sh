@@ -21,7 +21,7 @@ make_table() {
 for size in "$rows" "$((2 * rows))"; do
     make_table "$size" >"$folder/t$size.csv"
     echo "$size $(wc -c <"$folder/t$size.csv")" >>"$folder/names"
-    echo "$program $folder/s.R t=$folder/t$size.csv" >>"$folder/commands"
+    echo "$program --format csv $folder/s.R t=$folder/t$size.csv" >>"$folder/commands"
 done
 echo "processors: $(nproc)"
 measure 10 <"$folder/commands" | paste -d ' ' "$folder/names" - | awk '{
