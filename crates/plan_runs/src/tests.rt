@@ -1,9 +1,11 @@
 //! A run of three rows through a filter, one row in a batch: its rows, its history and its peaks, worked out by hand.
 ghost use Rattle.std.specs.Prelude.{◌≡◌, [], ◌∷◌, IfOk};
 
-use crate::{ChainRun, filter_step, run_chain};
+use crate::{ChainRun, run_chain};
+use chain_plans::Step;
 use na_expr::{Expr, ExprFn};
 use plan_machine::{Entry, Job};
+use plan_nodes::NodeKind;
 use row_table::{Field, Mark, Row, Schema, Table};
 use scalar_value::{ColType, Mem, Seq, Text, Value};
 use std::alloc::Global;
@@ -47,7 +49,9 @@ fn table_of(alloc: Global) -> Mem<Table>
     })
 }
 
-fn condition_of(alloc: Global) -> Mem<Expr> {
+fn condition_of(alloc: Global) -> Mem<Expr>
+    ensures { IfOk result (λ e. e ≡ Expr.Call ExprFn.Gt (Expr.Col 0 ∷ Expr.Lit (Value.Int 7) ColType.Int ∷ [])) }
+{
     let mut args = Seq::new(alloc);
     args.push(Expr::Col(0))?;
     args.push(Expr::Lit(Value::Int(7), ColType::Int))?;
@@ -55,13 +59,11 @@ fn condition_of(alloc: Global) -> Mem<Expr> {
 }
 
 /// The run of `v |> filter(x > 7)` where an edge is paused by its second batch.
-fn run_of<R: Threads + Sync>(rt: &R, alloc: Global) -> Mem<Option<ChainRun>> {
+fn run_of<R: Threads + Sync>(rt: &R, alloc: Global) -> Mem<ChainRun> {
+    let kind = NodeKind::Filter(condition_of(alloc)?);
     let schema = schema_of(alloc)?;
-    let Some(step) = filter_step(&schema, condition_of(alloc)?)? else {
-        return Ok(None);
-    };
     let mut steps = Seq::new(alloc);
-    steps.push(step)?;
+    steps.push(Step { kind, schema })?;
     let setting = Setting {
         batch: 1,
         workers: 1,
@@ -70,7 +72,7 @@ fn run_of<R: Threads + Sync>(rt: &R, alloc: Global) -> Mem<Option<ChainRun>> {
     };
     let name = Text::of(alloc, "v")?;
     let table = Arc::new(alloc, table_of(alloc)?)?;
-    Ok(Some(run_chain(rt, alloc, name, table, steps, setting)?))
+    run_chain(rt, alloc, name, table, steps, setting)
 }
 
 fn claim(node: u32, job: Job, batch: u64) -> Entry {
@@ -116,14 +118,10 @@ fn a_filter_runs_batch_by_batch(rt: HostRuntime) -> Result<(), Fail> {
         DELIVER,
         Entry::Finish { node: 3 },
     ];
-    match run_of(&rt, alloc)? {
-        Some(run) => {
-            assert_eq!(rt; run.finished.history.as_slice(), history.as_slice());
-            assert_eq!(rt; run.finished.peaks.as_slice(), [2, 2].as_slice());
-            assert_eq!(rt; run.finished.rows.len(), 2);
-            assert_eq!(rt; run.plan.nodes.len(), 3);
-        }
-        None => assert!(rt; false, "no condition"),
-    }
+    let run = run_of(&rt, alloc)?;
+    assert_eq!(rt; run.finished.history.as_slice(), history.as_slice());
+    assert_eq!(rt; run.finished.peaks.as_slice(), [2, 2].as_slice());
+    assert_eq!(rt; run.finished.rows.len(), 2);
+    assert_eq!(rt; run.plan.nodes.len(), 3);
     Ok(())
 }

@@ -1,6 +1,7 @@
 //! A tool that runs commands over files in memory. A case is a line `@@ WORDS` and, on the lines below it, the script `s.R`;
 //! beside it lie the tables of `files_of`. For each case of the file cases.txt it prints the case, the number of the status,
-//! and what the command wrote.
+//! and what the command wrote. A case whose words don't tell its batches runs once more at each of some sizes, and a line is
+//! added where it then writes anything else.
 #![tactic(auto)]
 
 ghost use Rattle.std.specs.Prelude.{◌≡◌};
@@ -28,12 +29,51 @@ fn main(rt: HostRuntime) -> io::Result<ExitCode> {
     Ok(ExitCode::SUCCESS)
 }
 
-// The status of a case, and what its command wrote.
+/// The most rows in a batch with which each case runs once more.
+const SIZES: [&str; 3] = ["1", "2", "65536"];
+
+// The status of a case, and what its command wrote; and a line where batches of another size changed it.
 fn transcript_of<R: Threads + Sync>(rt: &R, alloc: Global, case: &str) -> Mem<Text> {
     let (words, script) = case.split_once('\n').unwrap_or((case, ""));
     let script = script.strip_suffix('\n').unwrap_or(script);
+    let mut text = answer_of(rt, alloc, words, script, None)?;
+    if !tells_batches(words) && depends_on_batches(rt, alloc, words, script, &text)? {
+        text.push_str("it depends on the batches\n")?;
+    }
+    Ok(text)
+}
+
+// Whether the words say how many rows a batch has, or ask for the history, in which batches show.
+fn tells_batches(words: &str) -> bool {
+    words.contains("--batch") || words.contains("--report")
+}
+
+// Whether a case gives anything else at one of the sizes.
+fn depends_on_batches<R: Threads + Sync>(
+    rt: &R,
+    alloc: Global,
+    words: &str,
+    script: &str,
+    wanted: &Text,
+) -> Mem<bool> {
+    for size in SIZES {
+        if answer_of(rt, alloc, words, script, Some(size))? != *wanted {
+            return Ok(true);
+        }
+    }
+    Ok(false)
+}
+
+// The status of these words over this script, and what the command wrote.
+fn answer_of<R: Threads + Sync>(
+    rt: &R,
+    alloc: Global,
+    words: &str,
+    script: &str,
+    size: Option<&str>,
+) -> Mem<Text> {
     let mut files = files_of(alloc, script)?;
-    let words = words_of(alloc, words)?;
+    let words = words_of(alloc, words, size)?;
     let mut out = MemSink::new(alloc, 1 << 16, 1 << 16, Seq::new(alloc))?;
     let mut err = MemSink::new(alloc, 1 << 12, 1 << 12, Seq::new(alloc))?;
     let mut journal = RunRecord {
@@ -61,8 +101,13 @@ fn push_bytes(text: &mut Text, bytes: &[u8]) -> Mem<()> {
     }
 }
 
-fn words_of(alloc: Global, line: &str) -> Mem<Vec<String>> {
+// The words of a line, behind those for batches of this size.
+fn words_of(alloc: Global, line: &str, size: Option<&str>) -> Mem<Vec<String>> {
     let mut words = Vec::new(alloc);
+    if let Some(size) = size {
+        words.push(String::from_str(alloc, "--batch")?)?;
+        words.push(String::from_str(alloc, size)?)?;
+    }
     for word in line.split(' ') {
         if !word.is_empty() {
             words.push(String::from_str(alloc, word)?)?;
@@ -79,7 +124,7 @@ fn file_of(alloc: Global, name: &str, text: &str) -> Mem<(Text, Seq<u8>)> {
 }
 
 /// The files beside the script: their names and texts.
-const TABLES: [(&str, &str); 15] = [
+const TABLES: [(&str, &str); 16] = [
     (
         "t.csv",
         "id:int,g:chr,x:int\n1,a,10\n2,b,NA\n3,a,30\n4,NA,5\n",
@@ -113,6 +158,10 @@ const TABLES: [(&str, &str); 15] = [
     (
         "customers.csv",
         "cust:int,region:chr,since:date\n1,north,2019-05-14\n2,south,2021-11-30\n3,NA,2023-02-28\n4,north,2024-01-02\n",
+    ),
+    (
+        "deliveries.csv",
+        "delivery_id:int,depot:int,parcels:int,delay_minutes:int\n10231,4,12,0\n10232,4,7,45\n10233,2,31,NA\n10234,7,18,31\n10235,2,3,30\n10236,7,22,-5\n10237,4,9,120\n10238,1,15,NA\n10239,1,27,64\n",
     ),
     ("empty.csv", ""),
     ("header.csv", "x:int,g:chr\n"),
