@@ -2,12 +2,12 @@
 ghost use Rattle.std.specs.Prelude.{◌≡◌, IfOk, IsOk, Ok, [], List};
 ghost use Rattle.std.specs.List.{filter};
 ghost use Rattle.scalar_value.specs.Truths.{is_true as true_value};
-ghost use Rattle.na_expr.specs.Evaluation.{val};
 ghost use Rattle.plan_nodes.specs.Kinds.{filtered, filter_meaning};
 
 use crate::part::NoPart;
+use col_eval::eval_batch;
 use column_batch::Batch;
-use na_expr::{Expr, eval_row};
+use na_expr::Expr;
 use plan_machine::OpShape;
 use plan_nodes::{Operator, Streamed};
 use row_table::Row;
@@ -28,19 +28,13 @@ fn is_true(value: &Value) -> bool
     matches!(value, Value::Lgl(true))
 }
 
-fn holds(alloc: Global, condition: &Expr, row: &Row) -> Mem<bool>
-    ensures { IfOk result (λ b. b ≡ true_value (val row.now condition.now)) }
+fn kept_rows(alloc: Global, condition: &Expr, batch: &Batch) -> Mem<Seq<Row>>
+    ensures { IfOk result (λ made. made ≡ filtered condition.now batch.now.rows) }
 {
-    let value = eval_row(alloc, condition, row)?;
-    Ok(is_true(&value))
-}
-
-fn kept_rows(alloc: Global, condition: &Expr, rows: &[Row]) -> Mem<Seq<Row>>
-    ensures { IfOk result (λ made. made ≡ filtered condition.now rows.now) }
-{
+    let values = eval_batch(alloc, condition, batch)?;
     let mut made = Seq::new(alloc);
-    for row in rows {
-        if holds(alloc, condition, row)? {
+    for (row, value) in batch.rows().iter().zip(values.as_slice()) {
+        if is_true(value) {
             made.push(row.copy()?)?;
         }
     }
@@ -109,7 +103,7 @@ impl Operator for FilterOp {
         batch: &Batch,
         _from: u64,
     ) -> Mem<Streamed> {
-        let rows = kept_rows(alloc, &self.condition, batch.rows())?;
+        let rows = kept_rows(alloc, &self.condition, batch)?;
         let kinds = Seq::of_slice(alloc, batch.kinds())?;
         let out = Batch::of_rows(batch.index(), kinds, rows);
         Ok(Streamed { out, next: None })
