@@ -3,7 +3,7 @@ ghost use Rattle.std.specs.Prelude.{◌≡◌, IfOk, IsOk, OnOk, Ok, IsTrue, [],
 ghost use Rattle.na_expr.specs.Types.{typed};
 ghost use Rattle.column_batch.specs.Batches.{kinds_of};
 ghost use Rattle.plan_nodes.specs.Kinds.{projected, project_meaning, ok_or_lgl};
-ghost use Rattle.stream_ops.specs.Columns.{with_column};
+ghost use Rattle.stream_ops.specs.Columns.{lengthened};
 
 use crate::part::NoPart;
 use col_eval::eval_batch;
@@ -56,7 +56,7 @@ fn empty_rows(alloc: Global, rows: &[Row], room: usize) -> Mem<Vec<Row>>
 /// Moves each value of a column behind the values of its row.
 fn push_column(rows: &mut [Row], column: Seq<Value>) -> Mem<()>
     requires { length column ≡ length rows.old }
-    ensures { OnOk result (rows.new ≡ with_column rows.old column) }
+    ensures { OnOk result (rows.new ≡ lengthened rows.old column) }
 {
     for (place, value) in column.into_vec().into_iter().enumerate() {
         rows[place].push(value)?;
