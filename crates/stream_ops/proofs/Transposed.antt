@@ -1,6 +1,8 @@
 -- Rows that are put together column by column.
-use Rattle.std.proofs.Common.{◌≡◌, ℕ, suc, ◌+◌, ◌<◌, List, [], ◌∷◌, ◌++◌, length, get_or, set, take, map, refl, sym, ◌∙◌, ap, ap₂, arith}
-use Rattle.std.proofs.lemmas.List.{take_more, map_push, length-map, length-take-le}
+use Rattle.std.proofs.Common.{◌≡◌, ℕ, suc, ◌+◌, ◌<◌, List, [], ◌∷◌, ◌++◌, length, get_or, set, take, drop, map, append-nil, refl, sym, ◌∙◌, ap, ap₂, subst, arith}
+use Rattle.std.proofs.lemmas.List.{take_more, take_all, drop_all, map_push, length-map, length-take-le}
+use Rattle.std.specs.List.{enumerate_from}
+use Rattle.std.proofs.lemmas.List.FromFn.{length-enumerate_from, get_or-enumerate_from}
 use Rattle.scalar_value.specs.declared.value.Value.{Value}
 use Rattle.na_expr.specs.declared.expr.Expr.{Expr}
 use Rattle.na_expr.specs.Evaluation.{val}
@@ -42,6 +44,38 @@ pub projected-more : (es : List Expr) (rows : List (List Value)) (i : ℕ) (e : 
 projected-more es rows i e h is =
     ap (λ xs. projected xs rows) (take_more es i e h ∙ ap (λ x. take i es ++ x ∷ []) (sym is)) ∙ projected-push (take i es) e rows
 
+-- there is a row for each row, whatever the expressions
+pub length-projected : (es fs : List Expr) (rows : List (List Value)) → length (projected es rows) ≡ length (projected fs rows)
+length-projected es fs rows = length-map rows (λ row. map (val row) es) ∙ sym (length-map rows (λ row. map (val row) fs))
+
 -- a column has a value for each of the rows
 pub length-evaluated : (es : List Expr) (e : Expr) (rows : List (List Value)) → length (evaluated e rows) ≡ length (projected es rows)
 length-evaluated es e rows = length-map rows (λ row. val row e) ∙ sym (length-map rows (λ row. map (val row) es))
+
+-- an item of a column with its place
+at-place : (column : List Value) (i place : ℕ) (value : Value) → i < length column → ◌≡◌ {A = ℕ × Value} (place, value) (get_or (enumerate_from 0 column) i (place, value))
+    → (place ≡ i) × (value ≡ get_or column i value)
+at-place column i place value h is =
+    let at : ◌≡◌ {A = ℕ × Value} (place, value) (0 + i, get_or column i value) = is ∙ get_or-enumerate_from 0 column i (place, value) h in
+    let from_first : 0 + i ≡ i = omega arith in
+    (ap (λ (p : ℕ × Value). p.0) at ∙ from_first, ap (λ (p : ℕ × Value). p.1) at)
+
+-- the next value of a column, moved behind the values of its row
+pub column-step : (start rows : List (List Value)) (column : List Value) (i n place : ℕ) (value : Value) (row made : List Value)
+    → length column ≡ length start → rows ≡ lengthened start (take i column)
+    → (i < length (enumerate_from 0 column)) × (◌≡◌ {A = ℕ × Value} (place, value) (get_or (enumerate_from 0 column) i (place, value)))
+    → row ≡ get_or rows place row → made ≡ row ++ value ∷ [] → n ≡ i + 1
+    → set rows place made ≡ lengthened start (take n column)
+column-step start rows column i n place value row made even so_far turn is pushed next =
+    let h : i < length column = subst (λ k. i < k) (length-enumerate_from 0 column) turn.0 in
+    let here = at-place column i place value h turn.1 in
+    let row_is : row ≡ get_or (lengthened start (take i column)) i row = is ∙ ap₂ (λ rs k. get_or rs k row) so_far here.0 in
+    ap (λ k. set rows k made) here.0
+    ∙ ap₂ (λ rs x. set rs i x) so_far pushed
+    ∙ sym (lengthened-more start column i value row even h here.1 row_is)
+    ∙ ap (λ k. lengthened start (take k column)) (sym next)
+
+-- what a slice of all of a vector's items was written to
+pub all-written : {A : Type 0} (made had : List A) (n : ℕ) → length made ≡ length had → n ≡ length had → take n (made ++ drop (length made) had) ≡ made
+all-written made had n even all =
+    ap (λ xs. take n (made ++ xs)) (drop_all (length made) had (omega arith)) ∙ ap (take n) (append-nil made) ∙ take_all n made (omega arith)

@@ -64,14 +64,15 @@ fn push_column(rows: &mut [Row], column: Seq<Value>) -> Mem<()>
     Ok(())
 }
 
-fn rows_made(alloc: Global, list: &[Expr], batch: &Batch) -> Mem<Seq<Row>>
-    ensures { IfOk result (λ made. made ≡ projected list.now batch.now.rows) }
+/// Moves the values of expressions on the rows of a batch into rows that have none yet, column by column.
+fn push_columns(alloc: Global, list: &[Expr], batch: &Batch, rows: &mut [Row]) -> Mem<()>
+    requires { rows.old ≡ projected [] batch.now.rows }
+    ensures { OnOk result (rows.new ≡ projected list.now batch.now.rows) }
 {
-    let mut made = empty_rows(alloc, batch.rows(), list.len())?;
     for e in list {
-        push_column(&mut made, eval_batch(alloc, e, batch)?)?;
+        push_column(rows, eval_batch(alloc, e, batch)?)?;
     }
-    Ok(Seq::of(made))
+    Ok(())
 }
 
 impl ProjectOp {
@@ -138,8 +139,9 @@ impl Operator for ProjectOp {
     ) -> Mem<Streamed> {
         let list = self.list.as_slice();
         let kinds = kinds_made(alloc, list, &self.schema)?;
-        let rows = rows_made(alloc, list, batch)?;
-        let out = Batch::of_rows(batch.index(), kinds, rows);
+        let mut rows = empty_rows(alloc, batch.rows(), list.len())?;
+        push_columns(alloc, list, batch, &mut rows)?;
+        let out = Batch::of_rows(batch.index(), kinds, Seq::of(rows));
         Ok(Streamed { out, next: None })
     }
 
