@@ -1,3 +1,4 @@
 pub mod Filtered
 pub mod Projected
 pub mod Tested
+pub mod Transposed

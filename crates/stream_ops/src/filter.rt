@@ -1,13 +1,13 @@
 //! Acero's filter node: of each batch the rows on which a condition is TRUE, as dplyr's `filter`.
-ghost use Rattle.std.specs.Prelude.{◌≡◌, IfOk, IsOk, Ok, [], List};
-ghost use Rattle.std.specs.List.{filter};
+ghost use Rattle.std.specs.Prelude.{◌≡◌, IfOk, IsOk, Ok, [], List, length};
 ghost use Rattle.scalar_value.specs.Truths.{is_true as true_value};
-ghost use Rattle.na_expr.specs.Evaluation.{val};
-ghost use Rattle.plan_nodes.specs.Kinds.{filtered, filter_meaning};
+ghost use Rattle.plan_nodes.specs.Kinds.{filter_meaning};
+ghost use Rattle.stream_ops.specs.Columns.{rows_where};
 
 use crate::part::NoPart;
+use col_eval::eval_batch;
 use column_batch::Batch;
-use na_expr::{Expr, eval_row};
+use na_expr::Expr;
 use plan_machine::OpShape;
 use plan_nodes::{Operator, Streamed};
 use row_table::Row;
@@ -28,19 +28,14 @@ fn is_true(value: &Value) -> bool
     matches!(value, Value::Lgl(true))
 }
 
-fn holds(alloc: Global, condition: &Expr, row: &Row) -> Mem<bool>
-    ensures { IfOk result (λ b. b ≡ true_value (val row.now condition.now)) }
-{
-    let value = eval_row(alloc, condition, row)?;
-    Ok(is_true(&value))
-}
-
-fn kept_rows(alloc: Global, condition: &Expr, rows: &[Row]) -> Mem<Seq<Row>>
-    ensures { IfOk result (λ made. made ≡ filtered condition.now rows.now) }
+/// Copies of the rows beside which a column has TRUE.
+fn kept_rows(alloc: Global, rows: &[Row], values: &[Value]) -> Mem<Seq<Row>>
+    requires { length values.now ≡ length rows.now }
+    ensures { IfOk result (λ made. made ≡ rows_where rows.now values.now) }
 {
     let mut made = Seq::new(alloc);
-    for row in rows {
-        if holds(alloc, condition, row)? {
+    for (row, value) in rows.iter().zip(values) {
+        if is_true(value) {
             made.push(row.copy()?)?;
         }
     }
@@ -109,7 +104,8 @@ impl Operator for FilterOp {
         batch: &Batch,
         _from: u64,
     ) -> Mem<Streamed> {
-        let rows = kept_rows(alloc, &self.condition, batch.rows())?;
+        let values = eval_batch(alloc, &self.condition, batch)?;
+        let rows = kept_rows(alloc, batch.rows(), values.as_slice())?;
         let kinds = Seq::of_slice(alloc, batch.kinds())?;
         let out = Batch::of_rows(batch.index(), kinds, rows);
         Ok(Streamed { out, next: None })

@@ -1,17 +1,18 @@
 //! Acero's project node: for each row of a batch the values of expressions, as dplyr's `mutate` and `select`.
-ghost use Rattle.std.specs.Prelude.{◌≡◌, IfOk, IsOk, Ok, IsTrue, [], List, map};
-ghost use Rattle.na_expr.specs.Evaluation.{val};
+ghost use Rattle.std.specs.Prelude.{◌≡◌, IfOk, IsOk, OnOk, Ok, IsTrue, [], List, length, map};
 ghost use Rattle.na_expr.specs.Types.{typed};
 ghost use Rattle.column_batch.specs.Batches.{kinds_of};
 ghost use Rattle.plan_nodes.specs.Kinds.{projected, project_meaning, ok_or_lgl};
+ghost use Rattle.stream_ops.specs.Columns.{lengthened};
 
 use crate::part::NoPart;
+use col_eval::eval_batch;
 use column_batch::Batch;
-use na_expr::{Expr, eval_row, type_of};
+use na_expr::{Expr, type_of};
 use plan_machine::OpShape;
 use plan_nodes::{Operator, Streamed};
 use row_table::{Row, Schema};
-use scalar_value::{ColType, Mem, Seq};
+use scalar_value::{ColType, Mem, Seq, Value};
 use std::alloc::Global;
 use std::thread::Threads;
 
@@ -41,24 +42,37 @@ fn kinds_made(alloc: Global, list: &[Expr], schema: &Schema) -> Mem<Seq<ColType>
     Ok(kinds)
 }
 
-fn row_made(alloc: Global, list: &[Expr], row: &Row) -> Mem<Row>
-    ensures { IfOk result (λ made. made ≡ map (val row.now) list.now) }
+/// A row without values for each row, with room for so many.
+fn empty_rows(alloc: Global, rows: &[Row], room: usize) -> Mem<Vec<Row>>
+    ensures { IfOk result (λ made. made.items ≡ projected [] rows.now) }
 {
-    let mut made = Seq::new(alloc);
-    for e in list {
-        made.push(eval_row(alloc, e, row)?)?;
+    let mut made = Vec::with_capacity(alloc, rows.len())?;
+    for _row in rows {
+        made.push(Seq::of(Vec::with_capacity(alloc, room)?))?;
     }
     Ok(made)
 }
 
-fn rows_made(alloc: Global, list: &[Expr], rows: &[Row]) -> Mem<Seq<Row>>
-    ensures { IfOk result (λ made. made ≡ projected list.now rows.now) }
+/// Moves each value of a column behind the values of its row.
+fn push_column(rows: &mut [Row], column: Seq<Value>) -> Mem<()>
+    requires { length column ≡ length rows.old }
+    ensures { OnOk result (rows.new ≡ lengthened rows.old column) }
 {
-    let mut made = Seq::new(alloc);
-    for row in rows {
-        made.push(row_made(alloc, list, row)?)?;
+    for (place, value) in column.into_vec().into_iter().enumerate() {
+        rows[place].push(value)?;
     }
-    Ok(made)
+    Ok(())
+}
+
+/// Moves the values of expressions on the rows of a batch into rows that have none yet, column by column.
+fn push_columns(alloc: Global, list: &[Expr], batch: &Batch, rows: &mut [Row]) -> Mem<()>
+    requires { rows.old ≡ projected [] batch.now.rows }
+    ensures { OnOk result (rows.new ≡ projected list.now batch.now.rows) }
+{
+    for e in list {
+        push_column(rows, eval_batch(alloc, e, batch)?)?;
+    }
+    Ok(())
 }
 
 impl ProjectOp {
@@ -125,8 +139,9 @@ impl Operator for ProjectOp {
     ) -> Mem<Streamed> {
         let list = self.list.as_slice();
         let kinds = kinds_made(alloc, list, &self.schema)?;
-        let rows = rows_made(alloc, list, batch.rows())?;
-        let out = Batch::of_rows(batch.index(), kinds, rows);
+        let mut rows = empty_rows(alloc, batch.rows(), list.len())?;
+        push_columns(alloc, list, batch, &mut rows)?;
+        let out = Batch::of_rows(batch.index(), kinds, Seq::of(rows));
         Ok(Streamed { out, next: None })
     }
 

@@ -1,6 +1,6 @@
-use Rattle.std.proofs.Common.{◌≡◌, take}
-use Rattle.plan_nodes.specs.Kinds.{filtered}
+use Rattle.std.proofs.Common.{◌≡◌, length, take}
+use Rattle.stream_ops.specs.Columns.{rows_where}
 use Rattle.stream_ops.proofs.filter.kept_rows.Given as goal
 
 abbrev pub invariant-loop-row : goal.invariant-loop-row
-invariant-loop-row l = l.made ≡ filtered l.condition (take l.row-index l.rows)
+invariant-loop-row l = l.made ≡ rows_where (take (length l.yielded) l.rows) (take (length l.yielded) l.values)
