@@ -17,7 +17,7 @@ use Rattle.na_expr.specs.declared.expr.Expr.TheFolds.{fold-roll-Expr}
 use Rattle.na_expr.specs.declared.expr.Expr.TheViews.{roll-Expr}
 use Rattle.plan_nodes.specs.declared.node.Node.{Node}
 use Rattle.plan_nodes.specs.declared.node.NodeKind.TheVariants.{Source, Filter, HashJoin, Sink}
-use Rattle.plan_nodes.specs.declared.node.JoinSpec.{JoinSpec}
+use Rattle.plan_nodes.specs.declared.options.JoinSpec.{JoinSpec}
 use Rattle.plan_nodes.specs.Kinds.{is_sink, is_condition, unnamed}
 use Rattle.plan_nodes.specs.Plans.{Pace, IsPace, IsPlan, IsNodeOf, node_at, user_of}
 
