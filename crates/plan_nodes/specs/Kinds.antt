@@ -1,5 +1,5 @@
 -- What each kind of node computes, on whole lists of rows.
-use Rattle.std.specs.Prelude.{ℕ, ◌+◌, ◌-◌, ◌^◌, nat_le, Bool, true, false, ◌&&◌, not, cond, List, [], ◌∷◌, ◌++◌, map, length, Option, Some, None}
+use Rattle.std.specs.Prelude.{ℕ, ◌+◌, ◌-◌, ◌^◌, nat_le, Bool, true, false, ◌&&◌, not, cond, List, [], ◌∷◌, ◌++◌, map, length, Some, None}
 use Rattle.std.specs.List.{filter, flat_map, list_any}
 use Rattle.scalar_value.specs.declared.value.Value.TheVariants.{Missing}
 use Rattle.scalar_value.specs.declared.value.Value.{Value}
