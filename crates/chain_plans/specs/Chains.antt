@@ -6,7 +6,7 @@ use Rattle.row_table.specs.declared.table.Mark.{Mark}
 use Rattle.column_batch.specs.Batches.{kinds_of}
 use Rattle.plan_nodes.specs.declared.node.Node.{Node}
 use Rattle.plan_nodes.specs.declared.node.NodeKind.{NodeKind}
-use Rattle.plan_nodes.specs.declared.node.NodeKind.TheVariants.{Source, Filter, Project, HashJoin, Sink}
+use Rattle.plan_nodes.specs.declared.node.NodeKind.TheVariants.{Source, Filter, Project, Longer, Aggregate, HashJoin, OrderBy, Fetch, Window, Sink}
 use Rattle.plan_nodes.specs.Kinds.{filtered, projected, kind_meaning}
 use Rattle.chain_plans.specs.declared.nodes.Step.{Step}
 
@@ -15,14 +15,19 @@ abbrev pub is_streaming : NodeKind → Bool
 is_streaming (Source name) = false
 is_streaming (Filter e) = true
 is_streaming (Project es) = true
+is_streaming (Longer s) = false
+is_streaming (Aggregate s) = false
 is_streaming (HashJoin j) = false
+is_streaming (OrderBy ks) = false
+is_streaming (Fetch offset count) = false
+is_streaming (Window s) = false
 is_streaming Sink = false
 
 -- A step behind these columns: its expressions have types over them, and its own columns are those that it gives.
 pub record IsStep (schema : List Field) (s : Step) : Type 0 where
   pub streams : is_streaming s.kind ≡ true
-  pub fits : IsTrue ((kind_meaning s.kind (kinds_of schema ∷ []) 1).fits (kinds_of schema ∷ []))
-  pub columns : kinds_of s.schema ≡ (kind_meaning s.kind (kinds_of schema ∷ []) 1).columns (kinds_of schema ∷ [])
+  pub fits : IsTrue ((kind_meaning s.kind (schema ∷ []) 1).fits (kinds_of schema ∷ []))
+  pub columns : kinds_of s.schema ≡ (kind_meaning s.kind (schema ∷ []) 1).columns (kinds_of schema ∷ [])
 
 -- each step stands behind the columns that the one before it gives
 abbrev pub AreSteps : List Field → List Step → Type 0
@@ -43,7 +48,12 @@ abbrev pub step_rows : NodeKind → List (List Value) → List (List Value)
 step_rows (Source name) rows = rows
 step_rows (Filter e) rows = filtered e rows
 step_rows (Project es) rows = projected es rows
+step_rows (Longer s) rows = rows
+step_rows (Aggregate s) rows = rows
 step_rows (HashJoin j) rows = rows
+step_rows (OrderBy ks) rows = rows
+step_rows (Fetch offset count) rows = rows
+step_rows (Window s) rows = rows
 step_rows Sink rows = rows
 
 -- and that all steps give, one after another

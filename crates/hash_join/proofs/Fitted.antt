@@ -7,7 +7,7 @@ use Rattle.row_table.specs.declared.join.JoinKind.TheVariants.{Inner, Left, Righ
 use Rattle.row_table.specs.Keys.{rows_match}
 use Rattle.column_batch.specs.Batches.{fits_kinds, fit_kinds}
 use Rattle.column_batch.proofs.Fitting.{fit_kinds-append, fit_kinds-filter}
-use Rattle.plan_nodes.specs.declared.node.JoinSpec.{JoinSpec}
+use Rattle.plan_nodes.specs.declared.options.JoinSpec.{JoinSpec}
 use Rattle.plan_nodes.specs.Kinds.{matching, missing_row, joined_row, joined_rows, keeps_left}
 use Rattle.plan_nodes.proofs.Parts.{both-true, left-true, right-true}
 use Rattle.plan_nodes.proofs.JoinFits.{fits-append, fits-missing}

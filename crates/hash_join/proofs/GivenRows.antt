@@ -6,7 +6,7 @@ use Rattle.scalar_value.specs.declared.value.ColType.{ColType}
 use Rattle.row_table.specs.declared.join.JoinKind.{JoinKind}
 use Rattle.row_table.specs.declared.join.JoinKind.TheVariants.{Inner, Left, Right, Full, Semi, Anti}
 use Rattle.row_table.specs.Keys.{rows_match}
-use Rattle.plan_nodes.specs.declared.node.JoinSpec.{JoinSpec}
+use Rattle.plan_nodes.specs.declared.options.JoinSpec.{JoinSpec}
 use Rattle.plan_nodes.specs.Kinds.{matching, missing_row, joined_row, joined_rows}
 use Rattle.hash_join.specs.declared.window.Window.{Window}
 use Rattle.hash_join.specs.Windows.{offered, offers}

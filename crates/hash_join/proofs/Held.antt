@@ -10,7 +10,7 @@ use Rattle.row_table.specs.declared.join.JoinKind.TheVariants.{Inner, Left, Righ
 use Rattle.plan_machine.specs.Batch.{Batch, rows_of, gathered}
 use Rattle.column_batch.specs.Batches.{BatchValue, fit_kinds}
 use Rattle.column_batch.proofs.Fitting.{fit_kinds-filter, fit_kinds-take, fit_kinds-drop}
-use Rattle.plan_nodes.specs.declared.node.JoinSpec.{JoinSpec}
+use Rattle.plan_nodes.specs.declared.options.JoinSpec.{JoinSpec}
 use Rattle.plan_nodes.specs.Operators.{OpMeaning, Ends, Each, flat, first_of, second_of}
 use Rattle.plan_nodes.specs.Kinds.{join_meaning, matching, missing_row, joined_rows, unmatched, unmatched_rows, has_unmatched, keeps_left, same_kinds, keys_fit}
 use Rattle.plan_nodes.specs.Examples.{bare, Keeps}

@@ -5,7 +5,7 @@ use Rattle.scalar_value.specs.declared.value.Value.{Value}
 use Rattle.row_table.specs.declared.join.JoinKind.{JoinKind}
 use Rattle.row_table.specs.declared.join.JoinKind.TheVariants.{Inner, Left, Right, Full, Semi, Anti}
 use Rattle.row_table.specs.Keys.{rows_match}
-use Rattle.plan_nodes.specs.declared.node.JoinSpec.{JoinSpec}
+use Rattle.plan_nodes.specs.declared.options.JoinSpec.{JoinSpec}
 use Rattle.plan_nodes.specs.Kinds.{matching}
 
 -- what a left row gives with the right rows that match it, and where there are none with these values

@@ -1,7 +1,7 @@
 //! The operator of a node.
 ghost use Rattle.std.specs.Prelude.{◌≡◌, ◌<◌, map, IfOk, false};
 ghost use Rattle.column_batch.specs.Batches.{kinds_of};
-ghost use Rattle.plan_nodes.specs.Kinds.{kind_meaning, is_source};
+ghost use Rattle.plan_nodes.specs.Kinds.{kind_meaning, is_source, is_built};
 ghost use Rattle.plan_nodes.specs.Operators.{first_of, second_of};
 
 use crate::any::AnyOp;
@@ -14,7 +14,7 @@ use std::alloc::Global;
 use stream_ops::{FilterOp, ProjectOp};
 
 fn first_schema(alloc: Global, inputs: &[&Schema]) -> Mem<Schema>
-    ensures { IfOk result (λ schema. kinds_of schema ≡ first_of (map (λ s. kinds_of s.now) inputs.now)) }
+    ensures { IfOk result (λ schema. kinds_of schema ≡ kinds_of (first_of (map (λ s. s.now) inputs.now))) }
 {
     match inputs.first() {
         Some(schema) => schema.copy(),
@@ -23,7 +23,7 @@ fn first_schema(alloc: Global, inputs: &[&Schema]) -> Mem<Schema>
 }
 
 fn second_schema(alloc: Global, inputs: &[&Schema]) -> Mem<Schema>
-    ensures { IfOk result (λ schema. kinds_of schema ≡ second_of (map (λ s. kinds_of s.now) inputs.now)) }
+    ensures { IfOk result (λ schema. kinds_of schema ≡ kinds_of (second_of (map (λ s. s.now) inputs.now))) }
 {
     match inputs.get(1) {
         Some(schema) => schema.copy(),
@@ -35,8 +35,9 @@ fn second_schema(alloc: Global, inputs: &[&Schema]) -> Mem<Schema>
 /// rows. The only error is want of memory.
 pub fn op_of(alloc: Global, node: &Node, inputs: &[&Schema], batch: u32) -> Mem<AnyOp>
     requires no_source { is_source node.now.kind ≡ false }
+    requires built { is_built node.now.kind ≡ true }
     requires sized { 0 < batch }
-    ensures { IfOk result (λ made. ⟦<AnyOp as Operator>⟧.meaning made ≡ kind_meaning node.now.kind (map (λ s. kinds_of s.now) inputs.now) batch) }
+    ensures { IfOk result (λ made. ⟦<AnyOp as Operator>⟧.meaning made ≡ kind_meaning node.now.kind (map (λ s. s.now) inputs.now) batch) }
 {
     match &node.kind {
         NodeKind::Filter(condition) => Ok(AnyOp::Filter(FilterOp::new(condition.copy()?))),
@@ -50,6 +51,11 @@ pub fn op_of(alloc: Global, node: &Node, inputs: &[&Schema], batch: u32) -> Mem<
             Ok(AnyOp::Join(JoinOp::new(spec.copy()?, left, right, batch)))
         }
         NodeKind::Sink => Ok(AnyOp::Sink(SinkOp::new(batch))),
-        NodeKind::Source(_) => unreachable!(),
+        NodeKind::Source(_)
+        | NodeKind::Longer(_)
+        | NodeKind::Aggregate(_)
+        | NodeKind::OrderBy(_)
+        | NodeKind::Fetch(_, _)
+        | NodeKind::Window(_) => unreachable!(),
     }
 }

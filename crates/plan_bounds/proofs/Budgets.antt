@@ -8,9 +8,9 @@ use Rattle.plan_machine.specs.Budget.{IsBudget}
 use Rattle.plan_machine.specs.Batch.{parts}
 use Rattle.plan_nodes.specs.declared.node.Node.{Node}
 use Rattle.plan_nodes.specs.declared.node.NodeKind.{NodeKind}
-use Rattle.plan_nodes.specs.declared.node.NodeKind.TheVariants.{Source, Filter, Project, HashJoin, Sink}
+use Rattle.plan_nodes.specs.declared.node.NodeKind.TheVariants.{Source, Filter, Project, Longer, Aggregate, HashJoin, OrderBy, Fetch, Window, Sink}
 use Rattle.plan_nodes.specs.Kinds.{is_source, input_count}
-use Rattle.plan_nodes.specs.Plans.{Pace, IsPlan, node_at, input_at, input_kinds, meaning_at, machine_node_at, machine_plan}
+use Rattle.plan_nodes.specs.Plans.{Pace, IsPlan, node_at, input_at, input_schemas, meaning_at, machine_node_at, machine_plan}
 use Rattle.plan_nodes.proofs.EachKind.{is_join}
 use Rattle.plan_nodes.proofs.Inputs.{starts-folding, starts-streaming}
 use Rattle.plan_bounds.specs.Bounds.{Bound, of_table, of_kind, table_at, bound_within, rows_bound, batches_bound}
@@ -21,14 +21,24 @@ has-first : (kind : NodeKind) → is_source kind ≡ false → 1 ≤ input_count
 has-first (Source name) e = absurd (cc)
 has-first (Filter e) h = omega arith
 has-first (Project es) h = omega arith
+has-first (Longer s) h = omega arith
+has-first (Aggregate s) h = omega arith
 has-first (HashJoin j) h = omega arith
+has-first (OrderBy ks) h = omega arith
+has-first (Fetch offset count) h = omega arith
+has-first (Window s) h = omega arith
 has-first Sink h = omega arith
 
 has-second : (kind : NodeKind) → is_join kind ≡ true → 2 ≤ input_count kind
 has-second (Source name) e = absurd (cc)
 has-second (Filter e) h = absurd (cc)
 has-second (Project es) h = absurd (cc)
+has-second (Longer s) h = absurd (cc)
+has-second (Aggregate s) h = absurd (cc)
 has-second (HashJoin j) h = omega arith
+has-second (OrderBy ks) h = absurd (cc)
+has-second (Fetch offset count) h = absurd (cc)
+has-second (Window s) h = absurd (cc)
 has-second Sink h = absurd (cc)
 
 first-there : (es : List ℕ) → 1 ≤ length es → Contains es (input_at es 0)
@@ -52,7 +62,7 @@ module _ (nodes : List Node) (tables : List (List (List Value))) (pace : Pace) w
 
   at-node : (n : ℕ) → IsWithin (node_at nodes n).kind (plan.node n) pace.batch
   unfolding machine_node_at
-  at-node n = within (node_at nodes n) (input_kinds nodes (node_at nodes n)) pace.batch (table_at nodes tables pace.batch n)
+  at-node n = within (node_at nodes n) (input_schemas nodes (node_at nodes n)) pace.batch (table_at nodes tables pace.batch n)
 
   -- with more nodes on the way it is no less
   bound-more : (k n : ℕ) → IsAtMost (bound k n) (bound (suc k) n)

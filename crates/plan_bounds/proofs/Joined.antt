@@ -8,7 +8,7 @@ use Rattle.scalar_value.specs.declared.value.ColType.{ColType}
 use Rattle.row_table.specs.declared.join.JoinKind.{JoinKind}
 use Rattle.row_table.specs.declared.join.JoinKind.TheVariants.{Inner, Left, Right, Full, Semi, Anti}
 use Rattle.row_table.specs.Keys.{rows_match}
-use Rattle.plan_nodes.specs.declared.node.JoinSpec.{JoinSpec}
+use Rattle.plan_nodes.specs.declared.options.JoinSpec.{JoinSpec}
 use Rattle.plan_nodes.specs.Kinds.{matching, missing_row, joined_row, joined_rows, unmatched, unmatched_rows, has_unmatched}
 
 -- a filter keeps no more than there is
@@ -31,7 +31,7 @@ fewer-row Semi right x (y ∷ ys) = omega arith
 fewer-row Anti right x [] = omega arith
 fewer-row Anti right x (y ∷ ys) = omega arith
 
-fewer-flat : {A B : Type 0} (f : A → List B) (n : ℕ) → ((x : A) → length (f x) ≤ n) → (xs : List A) → length (flat_map f xs) ≤ length xs * n
+pub fewer-flat : {A B : Type 0} (f : A → List B) (n : ℕ) → ((x : A) → length (f x) ≤ n) → (xs : List A) → length (flat_map f xs) ≤ length xs * n
 fewer-flat f n small [] = omega arith
 fewer-flat f n small (x ∷ xs) =
     let e = fewer-flat f n small xs in let a = length-append (f x) (flat_map f xs) in let h = small x in omega arith

@@ -7,7 +7,7 @@ use Rattle.plan_machine.specs.Budget.{IsBudget}
 use Rattle.row_table.specs.declared.table.Mark.TheVariants.{Kept, Unordered}
 use Rattle.plan_nodes.specs.declared.node.Node.{Node}
 use Rattle.plan_nodes.specs.declared.node.NodeKind.TheVariants.{Source, Project, HashJoin, Sink}
-use Rattle.plan_nodes.specs.declared.node.JoinSpec.{JoinSpec}
+use Rattle.plan_nodes.specs.declared.options.JoinSpec.{JoinSpec}
 use Rattle.plan_nodes.specs.Plans.{Pace, IsPace, IsPlan, machine_plan}
 use Rattle.plan_bounds.specs.Bounds.{rows_bound, batches_bound, most_entries}
 

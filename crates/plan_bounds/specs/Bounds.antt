@@ -6,7 +6,7 @@ use Rattle.plan_machine.specs.Lists.{at_or}
 use Rattle.plan_machine.specs.Budget.{most}
 use Rattle.plan_nodes.specs.declared.node.Node.{Node}
 use Rattle.plan_nodes.specs.declared.node.NodeKind.{NodeKind}
-use Rattle.plan_nodes.specs.declared.node.NodeKind.TheVariants.{Source, Filter, Project, HashJoin, Sink}
+use Rattle.plan_nodes.specs.declared.node.NodeKind.TheVariants.{Source, Filter, Project, Longer, Aggregate, HashJoin, OrderBy, Fetch, Window, Sink}
 use Rattle.plan_nodes.specs.Plans.{Pace, node_at, input_at, tables_of, machine_plan}
 
 pub record Bound : Type 0 where
@@ -25,13 +25,23 @@ of_table batch table = record { rows = length table; batches = parts batch table
 abbrev pub of_join : Bound → Bound → Bound
 of_join x y = let rows = x.rows * (y.rows + 1) + y.rows in record { rows = rows; batches = x.batches + rows }
 
--- What a node gives, by its table and by what its inputs give: a source its table, a filter and a project as much as their
--- input; the sink gives nothing on.
+-- at most so many rows, and at most one batch for each
+abbrev pub of_rows : ℕ → Bound
+of_rows rows = record { rows = rows; batches = rows }
+
+-- What a node gives, by its table and by what its inputs give: a source its table; a filter and a project as much as their
+-- input; a longer a row for each chosen column of each row; an aggregate a row for each row, or one where there is none; an
+-- order_by, a fetch and a window no more rows than they gather; the sink gives nothing on.
 abbrev pub of_kind : NodeKind → Bound → Bound → Bound → Bound
 of_kind (Source name) table x y = table
 of_kind (Filter e) table x y = x
 of_kind (Project es) table x y = x
+of_kind (Longer s) table x y = record { rows = x.rows * length s.chosen; batches = x.batches }
+of_kind (Aggregate s) table x y = of_rows (x.rows + 1)
 of_kind (HashJoin j) table x y = of_join x y
+of_kind (OrderBy ks) table x y = of_rows x.rows
+of_kind (Fetch offset count) table x y = of_rows x.rows
+of_kind (Window s) table x y = of_rows x.rows
 of_kind Sink table x y = nothing
 
 module _ (nodes : List Node) (tables : List (List (List Value))) (batch : ℕ) where

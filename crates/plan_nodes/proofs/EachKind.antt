@@ -1,16 +1,18 @@
 -- Every kind of node is lawful, and may stand where a plan puts it.
 use Rattle.std.proofs.Common.{◌≡◌, ℕ, Bool, true, false, List, None, refl}
-use Rattle.scalar_value.specs.declared.value.ColType.{ColType}
+use Rattle.column_batch.specs.Batches.{kinds_of}
+use Rattle.row_table.specs.declared.field.Field.{Field}
 use Rattle.row_table.specs.declared.table.Mark.{Mark}
 use Rattle.row_table.specs.declared.table.Mark.TheVariants.{Unordered}
 use Rattle.plan_nodes.specs.declared.node.NodeKind.{NodeKind}
-use Rattle.plan_nodes.specs.declared.node.NodeKind.TheVariants.{Source, Filter, Project, HashJoin, Sink}
+use Rattle.plan_nodes.specs.declared.node.NodeKind.TheVariants.{Source, Filter, Project, Longer, Aggregate, HashJoin, OrderBy, Fetch, Window, Sink}
 use Rattle.plan_nodes.specs.Operators.{OpMeaning, first_of, second_of}
-use Rattle.plan_nodes.specs.Kinds.{kind_meaning, input_count, is_source, is_sink}
+use Rattle.plan_nodes.specs.Kinds.{kind_meaning, input_count, is_source, is_sink, is_built}
 use Rattle.plan_nodes.specs.Plans.{first_mark, mark_by}
 use Rattle.plan_nodes.proofs.Lawful.{LawfulMeaning}
 use Rattle.plan_nodes.proofs.Filters.{filter-lawful}
 use Rattle.plan_nodes.proofs.Projects.{project-lawful}
+use Rattle.plan_nodes.proofs.Longers.{longer-lawful}
 use Rattle.plan_nodes.proofs.Joins.{join-lawful}
 use Rattle.plan_nodes.proofs.Sinks.{sink-lawful}
 use Rattle.plan_nodes.proofs.Sources.{source-lawful}
@@ -20,17 +22,40 @@ abbrev pub is_join : NodeKind → Bool
 is_join (Source name) = false
 is_join (Filter e) = false
 is_join (Project es) = false
+is_join (Longer s) = false
+is_join (Aggregate s) = false
 is_join (HashJoin j) = true
+is_join (OrderBy ks) = false
+is_join (Fetch offset count) = false
+is_join (Window s) = false
 is_join Sink = false
 
 -- of a join the rows that it gives have no order
-pub kind-lawful : (kind : NodeKind) (inputs : List (List ColType)) (batch : ℕ) (gathers gives : Bool) → (is_join kind ≡ true → gives ≡ false) → LawfulMeaning (kind_meaning kind inputs batch) gathers gives
-kind-lawful (Source name) inputs batch gathers gives loose = source-lawful gathers gives
-kind-lawful (Filter e) inputs batch gathers gives loose = filter-lawful e gathers gives
-kind-lawful (Project es) inputs batch gathers gives loose = project-lawful es (first_of inputs) gathers gives
-kind-lawful (HashJoin j) inputs batch gathers true loose = absurd (let e = loose refl in cc)
-kind-lawful (HashJoin j) inputs batch gathers false loose = join-lawful j (first_of inputs) (second_of inputs) batch gathers
-kind-lawful Sink inputs batch gathers gives loose = sink-lawful batch gathers gives
+pub kind-lawful : (kind : NodeKind) (inputs : List (List Field)) (batch : ℕ) (gathers gives : Bool) → is_built kind ≡ true → (is_join kind ≡ true → gives ≡ false) → LawfulMeaning (kind_meaning kind inputs batch) gathers gives
+kind-lawful (Source name) inputs batch gathers gives built loose = source-lawful gathers gives
+kind-lawful (Filter e) inputs batch gathers gives built loose = filter-lawful e gathers gives
+kind-lawful (Project es) inputs batch gathers gives built loose = project-lawful es (kinds_of (first_of inputs)) gathers gives
+kind-lawful (Longer s) inputs batch gathers gives built loose = longer-lawful s (first_of inputs) gathers gives
+kind-lawful (Aggregate s) inputs batch gathers gives built loose = absurd (cc)
+kind-lawful (HashJoin j) inputs batch gathers true built loose = absurd (let e = loose refl in cc)
+kind-lawful (HashJoin j) inputs batch gathers false built loose = join-lawful j (kinds_of (first_of inputs)) (kinds_of (second_of inputs)) batch gathers
+kind-lawful (OrderBy ks) inputs batch gathers gives built loose = absurd (cc)
+kind-lawful (Fetch offset count) inputs batch gathers gives built loose = absurd (cc)
+kind-lawful (Window s) inputs batch gathers gives built loose = absurd (cc)
+kind-lawful Sink inputs batch gathers gives built loose = sink-lawful batch gathers gives
+
+-- of the kinds that are built none wants to see only some rows
+pub kind-wants : (kind : NodeKind) (inputs : List (List Field)) (batch : ℕ) → is_built kind ≡ true → (kind_meaning kind inputs batch).wanted ≡ None
+kind-wants (Source name) inputs batch built = refl
+kind-wants (Filter e) inputs batch built = refl
+kind-wants (Project es) inputs batch built = refl
+kind-wants (Longer s) inputs batch built = refl
+kind-wants (Aggregate s) inputs batch built = refl
+kind-wants (HashJoin j) inputs batch built = refl
+kind-wants (OrderBy ks) inputs batch built = refl
+kind-wants (Fetch offset count) inputs batch built = absurd (cc)
+kind-wants (Window s) inputs batch built = refl
+kind-wants Sink inputs batch built = refl
 
 abbrev pub KeepsMark : NodeKind → Type 0
 KeepsMark kind = (marks : List Mark) → mark_by kind marks ≡ first_mark marks
@@ -48,9 +73,8 @@ pub record FitKind (kind : NodeKind) (m : OpMeaning) : Type 0 where
   pub gathers : m.shape.folds ≡ true → m.shape.streams ≡ false → is_sink kind ≡ false → m.shape.tails ≡ true
   pub cuts : m.cuts ≡ true → is_join kind ≡ true
   pub sinks : is_sink kind ≡ true → (is_source kind ≡ false) × (is_join kind ≡ false) × (m.shape.folds ≡ true) × (m.shape.streams ≡ false) × (m.shape.tails ≡ false) × KeepsMark kind
-  pub wants : m.wanted ≡ None
 
-pub kind-fit : (kind : NodeKind) (inputs : List (List ColType)) (batch : ℕ) → FitKind kind (kind_meaning kind inputs batch)
+pub kind-fit : (kind : NodeKind) (inputs : List (List Field)) (batch : ℕ) → FitKind kind (kind_meaning kind inputs batch)
 kind-fit (Source name) inputs batch = record {
   one = λ source join. absurd (cc);
   two = λ join. absurd (cc);
@@ -60,7 +84,6 @@ kind-fit (Source name) inputs batch = record {
   gathers = λ folds streams sink. absurd (cc);
   cuts = λ cuts. absurd (cc);
   sinks = λ sink. absurd (cc);
-  wants = refl;
 }
 kind-fit (Filter e) inputs batch = record {
   one = λ source join. refl;
@@ -71,7 +94,6 @@ kind-fit (Filter e) inputs batch = record {
   gathers = λ folds streams sink. absurd (cc);
   cuts = λ cuts. absurd (cc);
   sinks = λ sink. absurd (cc);
-  wants = refl;
 }
 kind-fit (Project es) inputs batch = record {
   one = λ source join. refl;
@@ -82,7 +104,26 @@ kind-fit (Project es) inputs batch = record {
   gathers = λ folds streams sink. absurd (cc);
   cuts = λ cuts. absurd (cc);
   sinks = λ sink. absurd (cc);
-  wants = refl;
+}
+kind-fit (Longer s) inputs batch = record {
+  one = λ source join. refl;
+  two = λ join. absurd (cc);
+  streams = λ source folds. (refl, λ marks. refl);
+  joins = λ folds streams. absurd (cc);
+  a_join = λ join. absurd (cc);
+  gathers = λ folds streams sink. absurd (cc);
+  cuts = λ cuts. absurd (cc);
+  sinks = λ sink. absurd (cc);
+}
+kind-fit (Aggregate s) inputs batch = record {
+  one = λ source join. refl;
+  two = λ join. absurd (cc);
+  streams = λ source folds. absurd (cc);
+  joins = λ folds streams. absurd (cc);
+  a_join = λ join. absurd (cc);
+  gathers = λ folds streams sink. refl;
+  cuts = λ cuts. absurd (cc);
+  sinks = λ sink. absurd (cc);
 }
 kind-fit (HashJoin j) inputs batch = record {
   one = λ source join. absurd (cc);
@@ -93,7 +134,36 @@ kind-fit (HashJoin j) inputs batch = record {
   gathers = λ folds streams sink. absurd (cc);
   cuts = λ cuts. refl;
   sinks = λ sink. absurd (cc);
-  wants = refl;
+}
+kind-fit (OrderBy ks) inputs batch = record {
+  one = λ source join. refl;
+  two = λ join. absurd (cc);
+  streams = λ source folds. absurd (cc);
+  joins = λ folds streams. absurd (cc);
+  a_join = λ join. absurd (cc);
+  gathers = λ folds streams sink. refl;
+  cuts = λ cuts. absurd (cc);
+  sinks = λ sink. absurd (cc);
+}
+kind-fit (Fetch offset count) inputs batch = record {
+  one = λ source join. refl;
+  two = λ join. absurd (cc);
+  streams = λ source folds. absurd (cc);
+  joins = λ folds streams. absurd (cc);
+  a_join = λ join. absurd (cc);
+  gathers = λ folds streams sink. refl;
+  cuts = λ cuts. absurd (cc);
+  sinks = λ sink. absurd (cc);
+}
+kind-fit (Window s) inputs batch = record {
+  one = λ source join. refl;
+  two = λ join. absurd (cc);
+  streams = λ source folds. absurd (cc);
+  joins = λ folds streams. absurd (cc);
+  a_join = λ join. absurd (cc);
+  gathers = λ folds streams sink. refl;
+  cuts = λ cuts. absurd (cc);
+  sinks = λ sink. absurd (cc);
 }
 kind-fit Sink inputs batch = record {
   one = λ source join. refl;
@@ -104,5 +174,4 @@ kind-fit Sink inputs batch = record {
   gathers = λ folds streams sink. absurd (cc);
   cuts = λ cuts. absurd (cc);
   sinks = λ sink. (refl, refl, refl, refl, refl, λ marks. refl);
-  wants = refl;
 }

@@ -17,7 +17,7 @@ use Rattle.na_expr.specs.declared.expr.Expr.TheFolds.{fold-roll-Expr}
 use Rattle.na_expr.specs.declared.expr.Expr.TheViews.{roll-Expr}
 use Rattle.plan_nodes.specs.declared.node.Node.{Node}
 use Rattle.plan_nodes.specs.declared.node.NodeKind.TheVariants.{Source, Filter, HashJoin, Sink}
-use Rattle.plan_nodes.specs.declared.node.JoinSpec.{JoinSpec}
+use Rattle.plan_nodes.specs.declared.options.JoinSpec.{JoinSpec}
 use Rattle.plan_nodes.specs.Kinds.{is_sink, is_condition, unnamed}
 use Rattle.plan_nodes.specs.Plans.{Pace, IsPace, IsPlan, IsNodeOf, node_at, user_of}
 
@@ -91,6 +91,8 @@ node-1 = record {
   fits = refl;
   columns = λ source. absurd (cc);
   mark = inl refl;
+  ordered = λ asks. absurd (cc);
+  built = refl;
 }
 
 node-2 : IsNodeOf nodes 2 (node_at nodes 2)
@@ -101,6 +103,8 @@ node-2 = record {
   fits = refl;
   columns = λ source. absurd (cc);
   mark = inl refl;
+  ordered = λ asks. absurd (cc);
+  built = refl;
 }
 
 node-3 : IsNodeOf nodes 3 (node_at nodes 3)
@@ -111,6 +115,8 @@ node-3 = record {
   fits = refl;
   columns = λ source. refl;
   mark = inr (inl refl);
+  ordered = λ asks. absurd (cc);
+  built = refl;
 }
 
 node-4 : IsNodeOf nodes 4 (node_at nodes 4)
@@ -121,6 +127,8 @@ node-4 = record {
   fits = ap is_condition (fold-roll-Expr (Result ColType TypeFault) (step_type (unnamed (type.Int ∷ type.Int ∷ type.Lgl ∷ []))) (Col 2));
   columns = λ source. refl;
   mark = inr (inl refl);
+  ordered = λ asks. absurd (cc);
+  built = refl;
 }
 
 node-5 : IsNodeOf nodes 5 (node_at nodes 5)
@@ -131,6 +139,8 @@ node-5 = record {
   fits = refl;
   columns = λ source. refl;
   mark = inr (inl refl);
+  ordered = λ asks. absurd (cc);
+  built = refl;
 }
 
 pub is-plan : IsPlan nodes

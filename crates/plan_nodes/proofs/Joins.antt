@@ -10,7 +10,7 @@ use Rattle.row_table.specs.Keys.{rows_match}
 use Rattle.plan_machine.specs.Lists.{weigh}
 use Rattle.plan_machine.specs.Meaning.{SameSet}
 use Rattle.plan_machine.proofs.Weigh.{weigh-map, weigh-same}
-use Rattle.plan_nodes.specs.declared.node.JoinSpec.{JoinSpec}
+use Rattle.plan_nodes.specs.declared.options.JoinSpec.{JoinSpec}
 use Rattle.plan_nodes.specs.Kinds.{matching, missing_row, joined_row, joined_rows, unmatched, unmatched_rows, has_unmatched, join_meaning}
 use Rattle.plan_nodes.proofs.Weights.{SameWeight, same-weight, weigh-flat_map, filter-same, filter-alike, any-same}
 use Rattle.plan_nodes.proofs.Lawful.{LawfulMeaning}

@@ -2,11 +2,13 @@ pub mod Weights
 pub mod Lawful
 pub mod Filters
 pub mod Projects
+pub mod Longers
 pub mod Joins
 pub mod Sinks
 pub mod Sources
 pub mod EachKind
 pub mod Inputs
+pub mod Schemas
 pub mod Placed
 pub mod Example
 pub mod Gathered

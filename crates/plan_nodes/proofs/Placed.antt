@@ -7,9 +7,9 @@ use Rattle.plan_machine.specs.WellFormed.{IsInput, IsPlaced, IsSinkNode, LawfulN
 use Rattle.plan_nodes.specs.declared.node.Node.{Node}
 use Rattle.plan_nodes.specs.Operators.{OpMeaning}
 use Rattle.plan_nodes.specs.Kinds.{is_source, is_sink}
-use Rattle.plan_nodes.specs.Plans.{Pace, IsNodeOf, is_kept, node_at, input_at, input_kinds, input_marks, meaning_at, machine_node_at, machine_plan}
+use Rattle.plan_nodes.specs.Plans.{Pace, IsNodeOf, is_kept, node_at, input_at, input_schemas, input_marks, meaning_at, machine_node_at, machine_plan}
 use Rattle.plan_nodes.proofs.Lawful.{LawfulMeaning}
-use Rattle.plan_nodes.proofs.EachKind.{is_join, kind-lawful, FitKind, kind-fit, KeepsMark, HasNoMark}
+use Rattle.plan_nodes.proofs.EachKind.{is_join, kind-lawful, kind-wants, FitKind, kind-fit, KeepsMark, HasNoMark}
 use Rattle.plan_nodes.proofs.Inputs.{first-in, first-of-two, second-of-two, two-apart, first-marked, starts-folding, starts-streaming, source-emits, folds-first, streams-first}
 
 bool-cases : (b : Bool) → (b ≡ true) ⊎ (b ≡ false)
@@ -24,7 +24,7 @@ module _ (nodes : List Node) (tables : List (List (List Value))) (pace : Pace) w
   the_meaning n = meaning_at nodes pace.batch n
 
   fit-at : (n : ℕ) → FitKind (node_at nodes n).kind (the_meaning n)
-  fit-at n = kind-fit (node_at nodes n).kind (input_kinds nodes (node_at nodes n)) pace.batch
+  fit-at n = kind-fit (node_at nodes n).kind (input_schemas nodes (node_at nodes n)) pace.batch
 
   -- a node that is marked by its kind keeps order only where its first input does
   kept-by-first : (n : ℕ) → IsNodeOf nodes n (node_at nodes n) → is_source (node_at nodes n).kind ≡ false → KeepsMark (node_at nodes n).kind → length (node_at nodes n).inputs ≡ 1 → is_kept (node_at nodes n).mark ≡ true → is_kept (node_at nodes (input_at (node_at nodes n).inputs 0)).mark ≡ true
@@ -137,9 +137,9 @@ module _ (nodes : List Node) (tables : List (List (List Value))) (pace : Pace) w
   unfolding machine_node_at
   joins-cut n join = ((fit-at n).a_join (is-joined n join)).2
 
-  wants-none : (n : ℕ) → (plan.node n).wanted ≡ None
+  wants-none : (n : ℕ) → IsNodeOf nodes n (node_at nodes n) → (plan.node n).wanted ≡ None
   unfolding machine_node_at
-  wants-none n = (fit-at n).wants
+  wants-none n is = kind-wants (node_at nodes n).kind (input_schemas nodes (node_at nodes n)) pace.batch is.built
 
   pub placed : (n : ℕ) → IsNodeOf nodes n (node_at nodes n) → (n < length nodes → is_sink (node_at nodes n).kind ≡ false) → IsPlaced plan n
   placed n is no_sink = record {
@@ -153,7 +153,7 @@ module _ (nodes : List Node) (tables : List (List (List Value))) (pace : Pace) w
     loose_join = loose n is;
     loose_cuts = cut-loose n is;
     closes = λ join tails. joins-cut n join;
-    fetch = λ m wants. absurd (let none = wants-none n in cc);
+    fetch = λ m wants. absurd (let none = wants-none n is in cc);
   }
 
   sink-folds : (n : ℕ) → is_sink (node_at nodes n).kind ≡ true → Folds (plan.node n) × ((plan.node n).streams ≡ false) × ((plan.node n).tails ≡ false)
@@ -172,11 +172,11 @@ module _ (nodes : List Node) (tables : List (List (List Value))) (pace : Pace) w
   pub sink-placed : (n : ℕ) → IsNodeOf nodes n (node_at nodes n) → is_sink (node_at nodes n).kind ≡ true → IsSinkNode plan n
   sink-placed n is sink =
       let a = sink-folds n sink in
-      record { folds = a.0; only_folds = (a.1, a.2); no_fetch = wants-none n; in_order = sink-ordered n is sink }
+      record { folds = a.0; only_folds = (a.1, a.2); no_fetch = wants-none n is; in_order = sink-ordered n is sink }
 
   lawful-at : (n : ℕ) → IsNodeOf nodes n (node_at nodes n) → (gathers : Bool) → LawfulMeaning (the_meaning n) gathers (is_kept (node_at nodes n).mark)
   lawful-at n is gathers =
-      kind-lawful (node_at nodes n).kind (input_kinds nodes (node_at nodes n)) pace.batch gathers (is_kept (node_at nodes n).mark) (join-unmarked n is)
+      kind-lawful (node_at nodes n).kind (input_schemas nodes (node_at nodes n)) pace.batch gathers (is_kept (node_at nodes n).mark) is.built (join-unmarked n is)
 
   pub node-lawful : (n : ℕ) → IsNodeOf nodes n (node_at nodes n) → LawfulNode plan n
   unfolding machine_node_at

@@ -5,7 +5,7 @@ use Rattle.scalar_value.specs.declared.value.Value.{Value}
 use Rattle.row_table.specs.declared.join.JoinKind.TheVariants.{Full}
 use Rattle.plan_machine.specs.Batch.{Batch, rows_of}
 use Rattle.column_batch.specs.Batches.{BatchValue, fit_kinds}
-use Rattle.plan_nodes.specs.declared.node.JoinSpec.{JoinSpec}
+use Rattle.plan_nodes.specs.declared.options.JoinSpec.{JoinSpec}
 use Rattle.plan_nodes.specs.Operators.{OpMeaning, second_of, item}
 use Rattle.plan_nodes.specs.Kinds.{join_meaning}
 

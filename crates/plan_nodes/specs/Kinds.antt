@@ -1,24 +1,30 @@
 -- What each kind of node computes, on whole lists of rows.
-use Rattle.std.specs.Prelude.{ℕ, Bool, true, false, ◌&&◌, not, cond, List, [], ◌∷◌, ◌++◌, map, slice_get, Option, Some, None, Result, Ok, Err}
+use Rattle.std.specs.Prelude.{ℕ, ◌+◌, ◌-◌, ◌^◌, nat_le, Bool, true, false, ◌&&◌, not, cond, List, [], ◌∷◌, ◌++◌, map, length, Some, None}
 use Rattle.std.specs.List.{filter, flat_map, list_any}
 use Rattle.scalar_value.specs.declared.value.Value.TheVariants.{Missing}
 use Rattle.scalar_value.specs.declared.value.Value.{Value}
 use Rattle.scalar_value.specs.declared.value.ColType.{ColType}
-use Rattle.scalar_value.specs.declared.value.ColType.TheVariants as type
 use Rattle.scalar_value.specs.Truths.{is_true}
 use Rattle.na_expr.specs.declared.expr.Expr.{Expr}
-use Rattle.na_expr.specs.declared.expr.TypeFault.{TypeFault}
 use Rattle.na_expr.specs.Evaluation.{val}
 use Rattle.na_expr.specs.Types.{typed}
 use Rattle.row_table.specs.declared.field.Field.{Field}
 use Rattle.row_table.specs.declared.join.JoinKind.{JoinKind}
 use Rattle.row_table.specs.declared.join.JoinKind.TheVariants.{Inner, Left, Right, Full, Semi, Anti}
 use Rattle.row_table.specs.Keys.{Matching, rows_match}
+use Rattle.column_batch.specs.Batches.{kinds_of}
 use Rattle.plan_machine.specs.declared.shape.OpShape.{OpShape}
 use Rattle.plan_nodes.specs.declared.node.NodeKind.{NodeKind}
-use Rattle.plan_nodes.specs.declared.node.NodeKind.TheVariants.{Source, Filter, Project, HashJoin, Sink}
-use Rattle.plan_nodes.specs.declared.node.JoinSpec.{JoinSpec}
+use Rattle.plan_nodes.specs.declared.node.NodeKind.TheVariants.{Source, Filter, Project, Longer, Aggregate, HashJoin, OrderBy, Fetch, Window, Sink}
+use Rattle.plan_nodes.specs.declared.options.LongerSpec.{LongerSpec}
+use Rattle.plan_nodes.specs.declared.options.AggSpec.{AggSpec}
+use Rattle.plan_nodes.specs.declared.options.JoinSpec.{JoinSpec}
+use Rattle.plan_nodes.specs.declared.options.SortKey.{SortKey}
+use Rattle.plan_nodes.specs.declared.options.WindowSpec.{WindowSpec}
 use Rattle.plan_nodes.specs.Operators.{OpMeaning, first_of, second_of}
+use Rattle.plan_nodes.specs.KindRows.{longer_rows, aggregated, ordered_rows, fetched, windowed}
+pub use Rattle.plan_nodes.specs.KindTypes.{same_kind, same_kinds, unnamed, is_ok, ok_or_lgl, is_condition, are_typed, types_of, kind_at, same_column, keys_fit}
+use Rattle.plan_nodes.specs.KindTypes.{looks_at_places, window_looks_at_places, lacks_column, longer_fits, longer_kinds, aggregate_fits, aggregate_kinds, order_fits, window_fits, window_kinds}
 
 -- ---- rows
 
@@ -81,60 +87,6 @@ keeps_left Right = false
 keeps_left Full = false
 keeps_left Semi = true
 keeps_left Anti = true
-
--- ---- types
-
-abbrev pub same_kind : ColType → ColType → Bool
-same_kind type.Int type.Int = true
-same_kind type.Dec type.Dec = true
-same_kind type.Chr type.Chr = true
-same_kind type.Date type.Date = true
-same_kind type.Lgl type.Lgl = true
-same_kind s t = false
-
-abbrev pub same_kinds : List ColType → List ColType → Bool
-same_kinds [] [] = true
-same_kinds [] (t ∷ ts) = false
-same_kinds (s ∷ ss) [] = false
-same_kinds (s ∷ ss) (t ∷ ts) = same_kind s t && same_kinds ss ts
-
--- columns of these types; an expression names its columns by their places
-abbrev pub unnamed : List ColType → List Field
-unnamed kinds = map (λ t. record { name = []; kind = t }) kinds
-
-abbrev pub is_ok : Result ColType TypeFault → Bool
-is_ok (Ok t) = true
-is_ok (Err f) = false
-
-abbrev pub ok_or_lgl : Result ColType TypeFault → ColType
-ok_or_lgl (Ok t) = t
-ok_or_lgl (Err f) = type.Lgl
-
-abbrev pub is_condition : Result ColType TypeFault → Bool
-is_condition (Ok t) = same_kind type.Lgl t
-is_condition (Err f) = false
-
-abbrev pub are_typed : List ColType → List Expr → Bool
-are_typed kinds [] = true
-are_typed kinds (e ∷ es) = is_ok (typed (unnamed kinds) e) && are_typed kinds es
-
-abbrev pub types_of : List ColType → List Expr → List ColType
-types_of kinds es = map (λ e. ok_or_lgl (typed (unnamed kinds) e)) es
-
--- whether each pair of keys has columns, of one type
-abbrev pub kind_at : List ColType → ℕ → Option ColType
-kind_at kinds k = slice_get kinds k
-
-abbrev pub same_column : Option ColType → Option ColType → Bool
-same_column None b = false
-same_column (Some s) None = false
-same_column (Some s) (Some t) = same_kind s t
-
-abbrev pub keys_fit : List ColType → List ColType → List ℕ → List ℕ → Bool
-keys_fit left right [] [] = true
-keys_fit left right [] (b ∷ bs) = false
-keys_fit left right (a ∷ ks) [] = false
-keys_fit left right (a ∷ ks) (b ∷ bs) = same_column (kind_at left a) (kind_at right b) && keys_fit left right ks bs
 
 -- ---- operators
 
@@ -200,6 +152,80 @@ sink_meaning size =
       columns = first_of;
     }
 
+-- What is read once its one input has ended: an operator that gathers it whole, and gives rows at its end.
+abbrev pub ending : OpShape
+ending = record { folds = true; streams = false; tails = true }
+
+-- A longer is made for an input with these columns, whose names it gives as values.
+abbrev pub longer_meaning : LongerSpec → List Field → OpMeaning
+longer_meaning s schema =
+    record {
+      shape = streaming;
+      wanted = None;
+      size = None;
+      cuts = false;
+      part = λ built rows. longer_rows schema s rows;
+      rest = λ built streamed. [];
+      fits = λ inputs. same_kinds (kinds_of schema) (first_of inputs) && longer_fits (kinds_of schema) s;
+      columns = λ inputs. longer_kinds (kinds_of schema) s;
+    }
+
+-- An aggregate is made for an input with columns of these types.
+abbrev pub aggregate_meaning : AggSpec → List ColType → ℕ → OpMeaning
+aggregate_meaning s kinds size =
+    record {
+      shape = ending;
+      wanted = None;
+      size = Some size;
+      cuts = false;
+      part = λ built rows. [];
+      rest = λ built streamed. aggregated s built;
+      fits = λ inputs. same_kinds kinds (first_of inputs) && aggregate_fits kinds s;
+      columns = λ inputs. aggregate_kinds kinds s;
+    }
+
+-- An order_by sorts its input by some of its columns.
+abbrev pub order_meaning : List SortKey → ℕ → OpMeaning
+order_meaning ks size =
+    record {
+      shape = ending;
+      wanted = None;
+      size = Some size;
+      cuts = false;
+      part = λ built rows. [];
+      rest = λ built streamed. ordered_rows ks built;
+      fits = λ inputs. order_fits (first_of inputs) ks;
+      columns = first_of;
+    }
+
+-- A fetch wants to see the rows that it leaves out and those that it gives, which are no more than a count of 64 bits says.
+abbrev pub fetch_meaning : (offset count size : ℕ) → OpMeaning
+fetch_meaning offset count size =
+    record {
+      shape = ending;
+      wanted = Some (offset + count);
+      size = Some size;
+      cuts = false;
+      part = λ built rows. [];
+      rest = λ built streamed. fetched offset count built;
+      fits = λ inputs. nat_le (offset + count) (2 ^ 64 - 1);
+      columns = first_of;
+    }
+
+-- A window is made for an input with columns of these types.
+abbrev pub window_meaning : WindowSpec → List ColType → ℕ → OpMeaning
+window_meaning s kinds size =
+    record {
+      shape = ending;
+      wanted = None;
+      size = Some size;
+      cuts = false;
+      part = λ built rows. [];
+      rest = λ built streamed. windowed s built;
+      fits = λ inputs. same_kinds kinds (first_of inputs) && window_fits kinds s;
+      columns = λ inputs. window_kinds kinds s;
+    }
+
 -- A source has no operator; it stands here as one that gives nothing.
 abbrev pub no_meaning : OpMeaning
 no_meaning =
@@ -215,11 +241,16 @@ no_meaning =
     }
 
 -- the operator of a node with inputs of these columns, where batches have so many rows
-abbrev pub kind_meaning : NodeKind → List (List ColType) → ℕ → OpMeaning
+abbrev pub kind_meaning : NodeKind → List (List Field) → ℕ → OpMeaning
 kind_meaning (Source name) inputs batch = no_meaning
 kind_meaning (Filter e) inputs batch = filter_meaning e
-kind_meaning (Project es) inputs batch = project_meaning es (first_of inputs)
-kind_meaning (HashJoin j) inputs batch = join_meaning j (first_of inputs) (second_of inputs) batch
+kind_meaning (Project es) inputs batch = project_meaning es (kinds_of (first_of inputs))
+kind_meaning (Longer s) inputs batch = longer_meaning s (first_of inputs)
+kind_meaning (Aggregate s) inputs batch = aggregate_meaning s (kinds_of (first_of inputs)) batch
+kind_meaning (HashJoin j) inputs batch = join_meaning j (kinds_of (first_of inputs)) (kinds_of (second_of inputs)) batch
+kind_meaning (OrderBy ks) inputs batch = order_meaning ks batch
+kind_meaning (Fetch offset count) inputs batch = fetch_meaning offset count batch
+kind_meaning (Window s) inputs batch = window_meaning s (kinds_of (first_of inputs)) batch
 kind_meaning Sink inputs batch = sink_meaning batch
 
 -- how many inputs a node takes
@@ -227,19 +258,61 @@ abbrev pub input_count : NodeKind → ℕ
 input_count (Source name) = 0
 input_count (Filter e) = 1
 input_count (Project es) = 1
+input_count (Longer s) = 1
+input_count (Aggregate s) = 1
 input_count (HashJoin j) = 2
+input_count (OrderBy ks) = 1
+input_count (Fetch offset count) = 1
+input_count (Window s) = 1
 input_count Sink = 1
 
 abbrev pub is_source : NodeKind → Bool
 is_source (Source name) = true
 is_source (Filter e) = false
 is_source (Project es) = false
+is_source (Longer s) = false
+is_source (Aggregate s) = false
 is_source (HashJoin j) = false
+is_source (OrderBy ks) = false
+is_source (Fetch offset count) = false
+is_source (Window s) = false
 is_source Sink = false
 
 abbrev pub is_sink : NodeKind → Bool
 is_sink (Source name) = false
 is_sink (Filter e) = false
 is_sink (Project es) = false
+is_sink (Longer s) = false
+is_sink (Aggregate s) = false
 is_sink (HashJoin j) = false
+is_sink (OrderBy ks) = false
+is_sink (Fetch offset count) = false
+is_sink (Window s) = false
 is_sink Sink = true
+
+-- Whether a node asks for an input whose order is kept: a fetch, which gives the first rows; an order_by that leaves rows
+-- apart from which its keys can't be told; and aggregates and windows that look at the places of rows.
+abbrev pub asks_order : NodeKind → List (List Field) → Bool
+asks_order (Source name) inputs = false
+asks_order (Filter e) inputs = false
+asks_order (Project es) inputs = false
+asks_order (Longer s) inputs = false
+asks_order (Aggregate s) inputs = list_any (λ call. looks_at_places call.kind) s.calls
+asks_order (HashJoin j) inputs = false
+asks_order (OrderBy ks) inputs = lacks_column ks (length (first_of inputs))
+asks_order (Fetch offset count) inputs = true
+asks_order (Window s) inputs = list_any (λ call. window_looks_at_places call.kind) s.calls
+asks_order Sink inputs = false
+
+-- The kinds of which plans may be made today: those whose operators are built, and which the state of a run takes.
+abbrev pub is_built : NodeKind → Bool
+is_built (Source name) = true
+is_built (Filter e) = true
+is_built (Project es) = true
+is_built (Longer s) = false
+is_built (Aggregate s) = false
+is_built (HashJoin j) = true
+is_built (OrderBy ks) = false
+is_built (Fetch offset count) = false
+is_built (Window s) = false
+is_built Sink = true

@@ -27,12 +27,12 @@ pub record OpMeaning : Type 0 where
   -- the types of the columns that it gives then
   pub columns : List (List ColType) → List ColType
 
--- the types of the columns of the first and of the second input
-abbrev pub first_of : List (List ColType) → List ColType
+-- what is told of the first and of the second input, and nothing where there is none
+abbrev pub first_of : {A : Type 0} → List (List A) → List A
 first_of [] = []
 first_of (x ∷ xs) = x
 
-abbrev pub second_of : List (List ColType) → List ColType
+abbrev pub second_of : {A : Type 0} → List (List A) → List A
 second_of [] = []
 second_of (x ∷ xs) = first_of xs
 

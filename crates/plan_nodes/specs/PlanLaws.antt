@@ -6,7 +6,7 @@ use Rattle.row_table.specs.Tables.{TableValue}
 use Rattle.plan_machine.specs.WellFormed.{Lawful, WellFormed}
 use Rattle.plan_nodes.specs.declared.node.Node.{Node}
 use Rattle.plan_nodes.specs.declared.node.NodeKind.TheVariants.{Filter, HashJoin}
-use Rattle.plan_nodes.specs.declared.node.JoinSpec.{JoinSpec}
+use Rattle.plan_nodes.specs.declared.options.JoinSpec.{JoinSpec}
 use Rattle.plan_nodes.specs.Operators.{Each}
 use Rattle.plan_nodes.specs.Kinds.{has_unmatched}
 use Rattle.plan_nodes.specs.Plans.{Pace, IsPace, IsPlan, IsSourceTable, node_at, sources_of, machine_plan}

@@ -3,6 +3,7 @@ use Rattle.std.specs.Prelude.{◌≡◌, ℕ, zero, suc, ◌-◌, ◌<◌, ◌�
 use Rattle.std.specs.List.{filter}
 use Rattle.scalar_value.specs.declared.value.Value.{Value}
 use Rattle.scalar_value.specs.declared.value.ColType.{ColType}
+use Rattle.row_table.specs.declared.field.Field.{Field}
 use Rattle.row_table.specs.declared.table.Mark.{Mark}
 use Rattle.row_table.specs.declared.table.Mark.TheVariants.{Kept, Unordered}
 use Rattle.row_table.specs.Tables.{TableValue, fit_rows}
@@ -12,9 +13,9 @@ use Rattle.plan_machine.specs.Lists.{at_or}
 use Rattle.plan_machine.specs.Plan.{Node as MachineNode, Plan as MachinePlan}
 use Rattle.plan_nodes.specs.declared.node.Node.{Node}
 use Rattle.plan_nodes.specs.declared.node.NodeKind.{NodeKind}
-use Rattle.plan_nodes.specs.declared.node.NodeKind.TheVariants.{Source, Filter, Project, HashJoin, Sink}
+use Rattle.plan_nodes.specs.declared.node.NodeKind.TheVariants.{Source, Filter, Project, Longer, Aggregate, HashJoin, OrderBy, Fetch, Window, Sink}
 use Rattle.plan_nodes.specs.Operators.{OpMeaning}
-use Rattle.plan_nodes.specs.Kinds.{kind_meaning, input_count, is_source, is_sink}
+use Rattle.plan_nodes.specs.Kinds.{kind_meaning, input_count, is_source, is_sink, is_built, asks_order}
 
 -- how a run goes: rows in a batch, workers, how many waiting batches pause an edge, and at how many it goes on
 pub record Pace : Type 0 where
@@ -39,12 +40,18 @@ abbrev pub first_mark : List Mark → Mark
 first_mark [] = Unordered
 first_mark (m ∷ ms) = m
 
--- The mark of a node by those of its inputs: a hashjoin has no order, and every other kind keeps that of its one input.
+-- The mark of a node by those of its inputs: an order_by has an order, an aggregate and a hashjoin have none, and every
+-- other kind keeps that of its one input.
 abbrev pub mark_by : NodeKind → List Mark → Mark
 mark_by (Source name) marks = first_mark marks
 mark_by (Filter e) marks = first_mark marks
 mark_by (Project es) marks = first_mark marks
+mark_by (Longer s) marks = first_mark marks
+mark_by (Aggregate s) marks = Unordered
 mark_by (HashJoin j) marks = Unordered
+mark_by (OrderBy ks) marks = Kept
+mark_by (Fetch offset count) marks = first_mark marks
+mark_by (Window s) marks = first_mark marks
 mark_by Sink marks = first_mark marks
 
 -- ---- nodes by their number
@@ -58,7 +65,10 @@ abbrev pub node_at : List Node → ℕ → Node
 node_at nodes zero = no_node
 node_at nodes (suc k) = at_or no_node k nodes
 
--- its inputs' columns and marks
+-- its inputs' columns, their types, and marks
+abbrev pub input_schemas : List Node → Node → List (List Field)
+input_schemas nodes v = map (λ e. (node_at nodes e).schema) v.inputs
+
 abbrev pub input_kinds : List Node → Node → List (List ColType)
 input_kinds nodes v = map (λ e. kinds_of (node_at nodes e).schema) v.inputs
 
@@ -67,7 +77,7 @@ input_marks nodes v = map (λ e. (node_at nodes e).mark) v.inputs
 
 -- what node n computes
 abbrev pub meaning_at : List Node → ℕ → ℕ → OpMeaning
-meaning_at nodes batch n = kind_meaning (node_at nodes n).kind (input_kinds nodes (node_at nodes n)) batch
+meaning_at nodes batch n = kind_meaning (node_at nodes n).kind (input_schemas nodes (node_at nodes n)) batch
 
 abbrev pub among : ℕ → List ℕ → Bool
 among e [] = false
@@ -91,14 +101,16 @@ user_of nodes e = user_from 1 nodes e
 -- A node in its place: its inputs stand before it and have it as their user, no two of them are one node, and they are
 -- as many as its kind takes;
 -- its columns and expressions have types over the inputs' columns, and its own columns are those that it gives then;
--- its mark is that of its kind, or Unordered.
+-- its mark is that of its kind, or Unordered; its input has an order where it asks for one; and its kind is built.
 pub record IsNodeOf (nodes : List Node) (n : ℕ) (v : Node) : Type 0 where
   pub count : length v.inputs ≡ input_count v.kind
   pub inputs : (e : ℕ) → Contains v.inputs e → (1 ≤ e) × (e < n) × (user_of nodes e ≡ n)
   pub apart : IsTrue (are_apart v.inputs)
-  pub fits : IsTrue ((kind_meaning v.kind (input_kinds nodes v) 1).fits (input_kinds nodes v))
-  pub columns : is_source v.kind ≡ false → kinds_of v.schema ≡ (kind_meaning v.kind (input_kinds nodes v) 1).columns (input_kinds nodes v)
+  pub fits : IsTrue ((kind_meaning v.kind (input_schemas nodes v) 1).fits (input_kinds nodes v))
+  pub columns : is_source v.kind ≡ false → kinds_of v.schema ≡ (kind_meaning v.kind (input_schemas nodes v) 1).columns (input_kinds nodes v)
   pub mark : (is_source v.kind ≡ true) ⊎ ((v.mark ≡ Unordered) ⊎ (v.mark ≡ mark_by v.kind (input_marks nodes v)))
+  pub ordered : asks_order v.kind (input_schemas nodes v) ≡ true → first_mark (input_marks nodes v) ≡ Kept
+  pub built : is_built v.kind ≡ true
 
 -- Each node stands in its place, the last is a sink and no other is, and each other has a user in the plan.
 pub record IsPlan (nodes : List Node) : Type 0 where

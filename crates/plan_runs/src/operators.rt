@@ -3,7 +3,7 @@ ghost use Rattle.std.specs.Prelude.{◌≡◌, ◌<◌, ◌≤◌, true, false, 
 ghost use Rattle.std.specs.Arc.{arc_value};
 ghost use Rattle.column_batch.specs.Batches.{kinds_of};
 ghost use Rattle.plan_nodes.specs.Kinds.{is_source};
-ghost use Rattle.plan_nodes.specs.Plans.{IsPlan, input_kinds, node_at, meaning_at};
+ghost use Rattle.plan_nodes.specs.Plans.{IsPlan, input_schemas, node_at, meaning_at};
 ghost use Rattle.plan_store.specs.Beginning.{AreOperators};
 ghost use Rattle.op_set.specs.Meanings.{meaning_of};
 ghost use Rattle.plan_runs.specs.SoFar.{AreFirst};
@@ -26,7 +26,7 @@ fn columns_of(nodes: &[Node], number: u32) -> &Schema
 /// The columns of a node's inputs.
 fn inputs_of<'a>(alloc: Global, nodes: &'a [Node], node: &Node) -> Mem<Vec<&'a Schema>>
     requires { All (λ e. (1 ≤ e) × (e ≤ length nodes.now)) node.now.inputs }
-    ensures { IfOk result (λ made. map (λ s. kinds_of s.now) made.items ≡ input_kinds nodes.now node.now) }
+    ensures { IfOk result (λ made. map (λ s. s.now) made.items ≡ input_schemas nodes.now node.now) }
 {
     let mut schemas = Vec::new(alloc);
     for input in node.inputs.as_slice() {

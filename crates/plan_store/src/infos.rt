@@ -18,8 +18,15 @@ pub fn is_source(kind: &NodeKind) -> bool
 {
     match kind {
         NodeKind::Source(_) => true,
-        NodeKind::Filter(_) | NodeKind::Project(_) | NodeKind::HashJoin(_) | NodeKind::Sink =>
-            false,
+        NodeKind::Filter(_)
+        | NodeKind::Project(_)
+        | NodeKind::Longer(_)
+        | NodeKind::Aggregate(_)
+        | NodeKind::HashJoin(_)
+        | NodeKind::OrderBy(_)
+        | NodeKind::Fetch(_, _)
+        | NodeKind::Window(_)
+        | NodeKind::Sink => false,
     }
 }
 
@@ -29,7 +36,11 @@ pub fn shape_of(kind: &NodeKind) -> OpShape
 {
     let (folds, streams, tails) = match kind {
         NodeKind::Source(_) => (false, false, false),
-        NodeKind::Filter(_) | NodeKind::Project(_) => (false, true, false),
+        NodeKind::Filter(_) | NodeKind::Project(_) | NodeKind::Longer(_) => (false, true, false),
+        NodeKind::Aggregate(_)
+        | NodeKind::OrderBy(_)
+        | NodeKind::Fetch(_, _)
+        | NodeKind::Window(_) => (true, false, true),
         NodeKind::HashJoin(join) => (true, true, has_unmatched(join.kind)),
         NodeKind::Sink => (true, false, false),
     };

@@ -8,7 +8,7 @@ use Rattle.na_expr.specs.declared.expr.Expr.TheVariants.{Col}
 use Rattle.plan_nodes.specs.declared.node.Node.{Node}
 use Rattle.plan_nodes.specs.declared.node.NodeKind.{NodeKind}
 use Rattle.plan_nodes.specs.declared.node.NodeKind.TheVariants.{Source, Filter, HashJoin, Sink}
-use Rattle.plan_nodes.specs.declared.node.JoinSpec.{JoinSpec}
+use Rattle.plan_nodes.specs.declared.options.JoinSpec.{JoinSpec}
 
 abbrev pub left_schema : List Field
 left_schema = record { name = 97 ∷ []; kind = type.Int } ∷ []

@@ -5,7 +5,7 @@ use Rattle.row_table.specs.declared.table.Mark.{Mark}
 use Rattle.row_table.specs.declared.table.Mark.TheVariants.{Kept, Unordered}
 use Rattle.plan_nodes.specs.declared.node.Node.{Node}
 use Rattle.plan_nodes.specs.declared.node.NodeKind.{NodeKind}
-use Rattle.plan_nodes.specs.declared.node.NodeKind.TheVariants.{Source, Filter, Project, HashJoin, Sink}
+use Rattle.plan_nodes.specs.declared.node.NodeKind.TheVariants.{Source, Filter, Project, Longer, Aggregate, HashJoin, OrderBy, Fetch, Window, Sink}
 
 -- words with a space between them, and a line end
 abbrev pub line : List (List ℕ) → List ℕ
@@ -16,7 +16,12 @@ abbrev pub kind_word : NodeKind → List ℕ
 kind_word (Source name) = codes "source"
 kind_word (Filter e) = codes "filter"
 kind_word (Project es) = codes "project"
+kind_word (Longer s) = codes "longer"
+kind_word (Aggregate s) = codes "aggregate"
 kind_word (HashJoin j) = codes "hashjoin"
+kind_word (OrderBy ks) = codes "order_by"
+kind_word (Fetch offset count) = codes "fetch"
+kind_word (Window s) = codes "window"
 kind_word Sink = codes "sink"
 
 abbrev pub mark_word : Mark → List ℕ

@@ -17,7 +17,12 @@ fn kind_word(kind: &NodeKind) -> &'static str
         NodeKind::Source(_) => "source",
         NodeKind::Filter(_) => "filter",
         NodeKind::Project(_) => "project",
+        NodeKind::Longer(_) => "longer",
+        NodeKind::Aggregate(_) => "aggregate",
         NodeKind::HashJoin(_) => "hashjoin",
+        NodeKind::OrderBy(_) => "order_by",
+        NodeKind::Fetch(_, _) => "fetch",
+        NodeKind::Window(_) => "window",
         NodeKind::Sink => "sink",
     }
 }
@@ -51,8 +56,15 @@ fn push_inputs(out: &mut String, node: &Node) -> Mem<()>
             write!(out, " {name}")?;
             Ok(())
         }
-        NodeKind::Filter(_) | NodeKind::Project(_) | NodeKind::HashJoin(_) | NodeKind::Sink =>
-            push_numbers(out, node.inputs.as_slice()),
+        NodeKind::Filter(_)
+        | NodeKind::Project(_)
+        | NodeKind::Longer(_)
+        | NodeKind::Aggregate(_)
+        | NodeKind::HashJoin(_)
+        | NodeKind::OrderBy(_)
+        | NodeKind::Fetch(_, _)
+        | NodeKind::Window(_)
+        | NodeKind::Sink => push_numbers(out, node.inputs.as_slice()),
     }
 }
 

@@ -7,4 +7,4 @@ use Rattle.task_core.proofs.state.PlanState.enabled.Goals as goal
 pub returns-in-Stop : goal.returns-in-Stop
 returns-in-Stop g c =
     subst (λ x. IsTrue false ↔ Enabled (plan_of c.args.self.now.given) (state_of c.args.self.now) x) (sym c.in-Stop.is)
-    (stop_is c.args.self.now.given (state_of c.args.self.now) c.in-Stop.node)
+    (stop_is c.args.self.now.given c.runs_plan-in-Stop.ensures (state_of c.args.self.now) c.in-Stop.node)
