@@ -3,7 +3,6 @@ use Rattle.std.proofs.Common.{◌≡◌, ℕ, zero, suc, ◌+◌, ◌-◌, ◌<�
 use Rattle.std.specs.List.{Contains}
 use Rattle.std.proofs.lemmas.Bool.Decides.{eqb_tells}
 use Rattle.scalar_value.specs.declared.value.Value.{Value}
-use Rattle.scalar_value.specs.declared.value.ColType.{ColType}
 use Rattle.row_table.specs.declared.field.Field.{Field}
 use Rattle.row_table.specs.declared.table.Mark.{Mark}
 use Rattle.column_batch.specs.Batches.{kinds_of}
@@ -14,9 +13,9 @@ use Rattle.plan_machine.specs.WellFormed.{WellFormed}
 use Rattle.plan_machine.specs.Laws.{MeaningIsWhole}
 use Rattle.plan_nodes.specs.declared.node.Node.{Node}
 use Rattle.plan_nodes.specs.declared.node.NodeKind.{NodeKind}
-use Rattle.plan_nodes.specs.declared.node.NodeKind.TheVariants.{Source, Filter, Project, HashJoin, Sink}
-use Rattle.plan_nodes.specs.Kinds.{kind_meaning, input_count, is_source, is_sink}
-use Rattle.plan_nodes.specs.Plans.{Pace, IsPace, IsPlan, IsNodeOf, node_at, no_node, among, user_from, user_of, mark_by, machine_plan, machine_node, machine_node_at, input_kinds, input_at, tables_of}
+use Rattle.plan_nodes.specs.declared.node.NodeKind.TheVariants.{Source, Filter, Project, Longer, Aggregate, HashJoin, OrderBy, Fetch, Window, Sink}
+use Rattle.plan_nodes.specs.Kinds.{kind_meaning, input_count, is_source, is_sink, is_built, asks_order}
+use Rattle.plan_nodes.specs.Plans.{Pace, IsPace, IsPlan, IsNodeOf, node_at, no_node, among, user_from, user_of, mark_by, machine_plan, machine_node, machine_node_at, input_schemas, input_at, tables_of}
 use Rattle.plan_nodes.specs.PlanLaws.{PlansAreWellFormed}
 use Rattle.chain_plans.specs.declared.nodes.Step.{Step}
 use Rattle.chain_plans.specs.Chains.{is_streaming, IsStep, AreSteps, nodes_behind, chain_nodes, step_rows, chain_rows}
@@ -28,29 +27,73 @@ takes_one : (k : NodeKind) → is_streaming k ≡ true → input_count k ≡ 1
 takes_one (Source name) e = cc
 takes_one (Filter x) e = refl
 takes_one (Project xs) e = refl
+takes_one (Longer s) e = cc
+takes_one (Aggregate s) e = cc
 takes_one (HashJoin j) e = cc
+takes_one (OrderBy ks) e = cc
+takes_one (Fetch offset count) e = cc
+takes_one (Window s) e = cc
 takes_one Sink e = cc
 
 no_sink : (k : NodeKind) → is_streaming k ≡ true → is_sink k ≡ false
 no_sink (Source name) e = cc
 no_sink (Filter x) e = refl
 no_sink (Project xs) e = refl
+no_sink (Longer s) e = cc
+no_sink (Aggregate s) e = cc
 no_sink (HashJoin j) e = cc
+no_sink (OrderBy ks) e = cc
+no_sink (Fetch offset count) e = cc
+no_sink (Window s) e = cc
 no_sink Sink e = cc
 
 keeps_mark : (k : NodeKind) (m : Mark) → is_streaming k ≡ true → mark_by k (m ∷ []) ≡ m
 keeps_mark (Source name) m e = cc
 keeps_mark (Filter x) m e = refl
 keeps_mark (Project xs) m e = refl
+keeps_mark (Longer s) m e = cc
+keeps_mark (Aggregate s) m e = cc
 keeps_mark (HashJoin j) m e = cc
+keeps_mark (OrderBy ks) m e = cc
+keeps_mark (Fetch offset count) m e = cc
+keeps_mark (Window s) m e = cc
 keeps_mark Sink m e = cc
 
-gives : (k : NodeKind) (ins : List ℕ) (mark : Mark) (schema : List Field) (inputs : List (List ColType)) (batch : ℕ) (table x y : List (List Value)) → is_streaming k ≡ true
+built : (k : NodeKind) → is_streaming k ≡ true → is_built k ≡ true
+built (Source name) e = refl
+built (Filter x) e = refl
+built (Project xs) e = refl
+built (Longer s) e = cc
+built (Aggregate s) e = cc
+built (HashJoin j) e = refl
+built (OrderBy ks) e = cc
+built (Fetch offset count) e = cc
+built (Window s) e = cc
+built Sink e = refl
+
+asks_nothing : (k : NodeKind) (inputs : List (List Field)) → is_streaming k ≡ true → asks_order k inputs ≡ false
+asks_nothing (Source name) inputs e = refl
+asks_nothing (Filter x) inputs e = refl
+asks_nothing (Project xs) inputs e = refl
+asks_nothing (Longer s) inputs e = refl
+asks_nothing (Aggregate s) inputs e = cc
+asks_nothing (HashJoin j) inputs e = refl
+asks_nothing (OrderBy ks) inputs e = cc
+asks_nothing (Fetch offset count) inputs e = cc
+asks_nothing (Window s) inputs e = cc
+asks_nothing Sink inputs e = refl
+
+gives : (k : NodeKind) (ins : List ℕ) (mark : Mark) (schema : List Field) (inputs : List (List Field)) (batch : ℕ) (table x y : List (List Value)) → is_streaming k ≡ true
     → whole (machine_node (record { kind = k; inputs = ins; mark = mark; schema = schema }) (kind_meaning k inputs batch) table) x y ≡ step_rows k x
 gives (Source name) ins mark schema inputs batch table x y e = cc
 gives (Filter c) ins mark schema inputs batch table x y e = refl
 gives (Project cs) ins mark schema inputs batch table x y e = refl
+gives (Longer s) ins mark schema inputs batch table x y e = cc
+gives (Aggregate s) ins mark schema inputs batch table x y e = cc
 gives (HashJoin j) ins mark schema inputs batch table x y e = cc
+gives (OrderBy ks) ins mark schema inputs batch table x y e = cc
+gives (Fetch offset count) ins mark schema inputs batch table x y e = cc
+gives (Window s) ins mark schema inputs batch table x y e = cc
 gives Sink ins mark schema inputs batch table x y e = cc
 
 -- ---- lists
@@ -119,9 +162,11 @@ module _ (all : List Node) (mark : Mark) where
         count = sym (takes_one s.kind h.streams);
         inputs = in_one (λ e. (1 ≤ e) × (e < suc k) × (user_of all e ≡ suc k)) k (low, omega arith, used);
         apart = refl;
-        fits = subst (λ f. IsTrue ((kind_meaning s.kind (kinds_of f ∷ []) 1).fits (kinds_of f ∷ []))) (sym columns) h.fits;
-        columns = λ other. subst (λ f. kinds_of s.schema ≡ (kind_meaning s.kind (kinds_of f ∷ []) 1).columns (kinds_of f ∷ [])) (sym columns) h.columns;
+        fits = subst (λ f. IsTrue ((kind_meaning s.kind (f ∷ []) 1).fits (kinds_of f ∷ []))) (sym columns) h.fits;
+        columns = λ other. subst (λ f. kinds_of s.schema ≡ (kind_meaning s.kind (f ∷ []) 1).columns (kinds_of f ∷ [])) (sym columns) h.columns;
         mark = inr (inr (sym (ap (λ m. mark_by s.kind (m ∷ [])) kept ∙ keeps_mark s.kind mark h.streams)));
+        ordered = λ asks. absurd (let none = asks_nothing s.kind ((node_at all k).schema ∷ []) h.streams in cc);
+        built = built s.kind h.streams;
       }
 
   sink_placed : (k : ℕ) (schema : List Field) → 1 ≤ k → (node_at all k).schema ≡ schema → (node_at all k).mark ≡ mark → user_of all k ≡ suc k
@@ -134,6 +179,8 @@ module _ (all : List Node) (mark : Mark) where
         fits = refl;
         columns = λ other. ap kinds_of (sym columns);
         mark = inr (inr (sym kept));
+        ordered = λ asks. absurd (cc);
+        built = refl;
       }
 
   placed_behind : (k : ℕ) (schema : List Field) (steps : List Step)
@@ -187,6 +234,8 @@ module _ (name : List ℕ) (mark : Mark) (schema : List Field) (steps : List Ste
           fits = refl;
           columns = λ source. absurd (cc);
           mark = inl refl;
+          ordered = λ asks. absurd (cc);
+          built = refl;
         };
         inner = λ lt. refl;
         end = λ e. absurd (let a = size in omega arith);
@@ -222,7 +271,7 @@ module _ (all : List Node) (mark : Mark) (tables : List (List (List Value))) (pa
 
   -- node n's rows, where it is this node
   abbrev rows_by : ℕ → Node → List (List Value)
-  rows_by n x = whole (machine_node x (kind_meaning x.kind (input_kinds all x) pace.batch) (at_or [] (n - 1) (tables_of all tables))) (meaning P (input_at x.inputs 0)) (meaning P (input_at x.inputs 1))
+  rows_by n x = whole (machine_node x (kind_meaning x.kind (input_schemas all x) pace.batch) (at_or [] (n - 1) (tables_of all tables))) (meaning P (input_at x.inputs 0)) (meaning P (input_at x.inputs 1))
 
   means_by : (n : ℕ) (v : Node) → 1 ≤ n → n ≤ length all → node_at all n ≡ v → meaning P n ≡ rows_by n v
   unfolding machine_node_at
@@ -241,7 +290,7 @@ module _ (all : List Node) (mark : Mark) (tables : List (List (List Value))) (pa
       let is : node_at all (suc k) ≡ v = at_drop no_node v k all (nodes_behind mark (suc k) s.schema steps) rest in
       means_behind (suc k) s.schema steps (step_rows s.kind rows) (omega arith) (drop_next v k all (nodes_behind mark (suc k) s.schema steps) rest) (omega arith) h.1
       (means_by (suc k) v (omega arith) (omega arith) is
-      ∙ (gives s.kind (k ∷ []) mark s.schema (input_kinds all v) pace.batch (at_or [] (suc k - 1) (tables_of all tables)) (meaning P k) (meaning P 0) h.0.streams
+      ∙ (gives s.kind (k ∷ []) mark s.schema (input_schemas all v) pace.batch (at_or [] (suc k - 1) (tables_of all tables)) (meaning P k) (meaning P 0) h.0.streams
       ∙ ap (step_rows s.kind) before))
 
 pub chains_mean : PlansAreWellFormed → MeaningIsWhole (List Value) → ChainsMean
