@@ -1,3 +1,5 @@
 pub mod Joined
 pub mod OfKind
 pub mod Budgets
+pub mod NodeByNode
+pub mod Tested
