@@ -8,10 +8,7 @@ use Rattle.plan_nodes.specs.declared.node.Node.{Node}
 use Rattle.plan_nodes.specs.declared.node.NodeKind.{NodeKind}
 use Rattle.plan_nodes.specs.declared.node.NodeKind.TheVariants.{Source, Filter, Project, Longer, Aggregate, HashJoin, OrderBy, Fetch, Window, Sink}
 use Rattle.plan_nodes.specs.Plans.{Pace, node_at, input_at, tables_of, machine_plan}
-
-pub record Bound : Type 0 where
-  pub rows : ℕ
-  pub batches : ℕ
+pub use Rattle.plan_bounds.specs.declared.computed.Bound.{Bound}
 
 abbrev pub nothing : Bound
 nothing = record { rows = 0; batches = 0 }

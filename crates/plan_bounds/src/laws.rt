@@ -1,5 +1,6 @@
 //! The laws of bounds. Each is a function that does nothing: its contract is the law.
 ghost use Rattle.plan_bounds.specs.BoundLaws.{BoundsAreBudgets, PlansEnd, WorkedBound};
+ghost use Rattle.plan_bounds.specs.Computed.{PlansAreSorted};
 
 use plan_machine::no_more_entries;
 use plan_nodes::plans_are_well_formed;
@@ -25,4 +26,9 @@ pub fn plans_end()
 /// has at most 330 entries.
 pub fn worked_bound()
     ensures { WorkedBound }
+{}
+
+/// In every plan, each input stands before its user.
+pub fn plans_are_sorted()
+    ensures { PlansAreSorted }
 {}

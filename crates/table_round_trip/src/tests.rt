@@ -1,7 +1,8 @@
 //! Tables that are printed, and what is read back of them.
 ghost use Rattle.std.specs.Prelude.{◌≡◌, [], ◌∷◌, IfOk, codes};
 
-use csv_source::read_table;
+use crate::reread;
+use csv_source::TableKind;
 use row_table::{Field, Mark, Row, Schema, Table};
 use scalar_value::{ColType, Dec6, Mem, NoMemory, Or, Seq, Text, Value};
 use std::alloc::Global;
@@ -114,7 +115,7 @@ fn lone_column(alloc: Global) -> Mem<Table> {
 fn expect_back<R: Abort>(rt: &R, alloc: Global, t: &Table, wanted: &str) -> Mem<()> {
     let printed = write_csv(alloc, t)?;
     assert_eq!(rt; printed.as_str(), wanted);
-    match read_table(alloc, printed.as_str().as_bytes()) {
+    match reread(alloc, t) {
         Ok(read) => {
             assert_eq!(rt; read.schema.len(), t.schema.len());
             for (there, here) in read.schema.as_slice().iter().zip(t.schema.as_slice()) {
@@ -127,6 +128,33 @@ fn expect_back<R: Abort>(rt: &R, alloc: Global, t: &Table, wanted: &str) -> Mem<
         Err(Or::Fault(_)) => panic!(rt; "a fault"),
         Err(Or::Memory) => Err(NoMemory),
     }
+}
+
+/// A column without a name, which no file holds.
+fn nameless_column(alloc: Global) -> Mem<Table> {
+    let mut schema: Schema = Seq::new(alloc);
+    schema.push(field(alloc, "", ColType::Int)?)?;
+    Ok(Table {
+        schema,
+        groups: Seq::new(alloc),
+        mark: Mark::Kept,
+        rows: Seq::new(alloc),
+    })
+}
+
+#[test]
+fn a_table_that_no_file_holds_has_a_fault(rt: HostRuntime) -> Result<(), Fail> {
+    let alloc = rt.alloc();
+    match reread(alloc, &nameless_column(alloc)?) {
+        Err(Or::Fault(fault)) => {
+            assert_eq!(rt; fault.kind, TableKind::HeaderType);
+            assert_eq!(rt; fault.row, 0);
+            assert_eq!(rt; fault.column, 1);
+        }
+        Ok(_) => panic!(rt; "a table"),
+        Err(Or::Memory) => panic!(rt; "no memory"),
+    }
+    Ok(())
 }
 
 #[test]
