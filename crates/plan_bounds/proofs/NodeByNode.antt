@@ -9,7 +9,7 @@ use Rattle.plan_machine.specs.Lists.{at_or, sum_to}
 use Rattle.plan_machine.specs.Phases.{part_count_of}
 use Rattle.plan_nodes.specs.declared.node.Node.{Node}
 use Rattle.plan_nodes.specs.declared.node.NodeKind.{NodeKind}
-use Rattle.plan_nodes.specs.declared.node.NodeKind.TheVariants.{Source, Filter, Project, HashJoin, Sink}
+use Rattle.plan_nodes.specs.declared.node.NodeKind.TheVariants.{Source, Filter, Project, Longer, Aggregate, HashJoin, OrderBy, Fetch, Window, Sink}
 use Rattle.plan_nodes.specs.Kinds.{is_source}
 use Rattle.plan_nodes.specs.Plans.{node_at, no_node, input_at, tables_of}
 use Rattle.plan_bounds.specs.Bounds.{Bound, nothing, of_table, of_kind, table_at, bound_within, batches_bound}
@@ -140,7 +140,12 @@ by-table : (kind : NodeKind) (t u x y : Bound) → (is_source kind ≡ true → 
 by-table (Source name) t u x y h = h refl
 by-table (Filter e) t u x y h = refl
 by-table (Project es) t u x y h = refl
+by-table (Longer s) t u x y h = refl
+by-table (Aggregate s) t u x y h = refl
 by-table (HashJoin j) t u x y h = refl
+by-table (OrderBy ks) t u x y h = refl
+by-table (Fetch offset count) t u x y h = refl
+by-table (Window s) t u x y h = refl
 by-table Sink t u x y h = refl
 
 module _ (nodes : List Node) (tables : List (List (List Value))) (batch : ℕ) where

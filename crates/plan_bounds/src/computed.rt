@@ -1,7 +1,7 @@
 //! The bound on a run's entries as a number, node by node.
-ghost use Rattle.std.specs.Prelude.{◌≡◌, ◌+◌, ◌*◌, ◌≤◌, ◌<◌, ◌-◌, ◌^◌, suc, cond, [], IfOk};
+ghost use Rattle.std.specs.Prelude.{◌≡◌, ◌+◌, ◌*◌, ◌≤◌, ◌<◌, ◌-◌, ◌^◌, true, suc, cond, [], All, IfOk};
 ghost use Rattle.plan_machine.specs.Lists.{at_or};
-ghost use Rattle.plan_nodes.specs.Kinds.{is_source};
+ghost use Rattle.plan_nodes.specs.Kinds.{is_source, is_built};
 ghost use Rattle.plan_nodes.specs.Plans.{Pace, input_at};
 ghost use Rattle.plan_bounds.specs.Bounds.{nothing, of_table, of_join, of_kind, most_entries};
 ghost use Rattle.plan_bounds.specs.Computed.{AreSorted, IsIn64Bits, IsBoundIn64Bits};
@@ -71,6 +71,7 @@ fn join_bound(x: Bound, y: Bound) -> Option<Bound>
 
 /// The bound of a node by that of the next table, and by those of the nodes before it.
 fn node_bound(node: &Node, table: Bound, bounds: &[Bound]) -> Option<Bound>
+    requires { is_built node.now.kind ≡ true }
     ensures { IsBoundIn64Bits (of_kind node.now.kind table (at_or nothing (input_at node.now.inputs 0) bounds.now) (at_or nothing (input_at node.now.inputs 1) bounds.now)) result }
 {
     match &node.kind {
@@ -81,6 +82,11 @@ fn node_bound(node: &Node, table: Bound, bounds: &[Bound]) -> Option<Bound>
             join_bound(input_bound(bounds, node, 0), input_bound(bounds, node, 1))
         }
         NodeKind::Sink => Some(NOTHING),
+        NodeKind::Longer(_)
+        | NodeKind::Aggregate(_)
+        | NodeKind::OrderBy(_)
+        | NodeKind::Fetch(_, _)
+        | NodeKind::Window(_) => unreachable!(),
     }
 }
 
@@ -106,7 +112,8 @@ fn entries_with(entries: u64, batches: u64) -> Option<u64>
 /// The bound on how many entries a run of these nodes can have, over these tables of the sources, in their order, and in
 /// batches of `batch` rows: the number `most_entries` itself, or none exactly where it is 2^64 or more.
 ///
-/// The conditions are that inputs stand before their users, as in every plan, and that a batch has a row. The only error is
+/// The conditions are that inputs stand before their users and that the kinds are built, as in every plan, and that a batch
+/// has a row. The only error is
 /// want of memory.
 pub fn most_entries_of(
     alloc: Global,
@@ -115,6 +122,7 @@ pub fn most_entries_of(
     batch: u32,
 ) -> Mem<Option<u64>>
     requires sorted { AreSorted nodes.now }
+    requires built { All (λ v. is_built v.kind ≡ true) nodes.now }
     requires batch { 1 ≤ batch }
     ensures { IfOk result (λ most. (pace : Pace) → pace.batch ≡ batch → IsIn64Bits (most_entries nodes.now tables.now pace) most) }
 {

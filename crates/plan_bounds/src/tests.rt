@@ -1,5 +1,6 @@
 //! The worked number, and a bound that passes 64 bits.
-ghost use Rattle.std.specs.Prelude.{◌≡◌, ◌∷◌, [], IfOk, map};
+ghost use Rattle.std.specs.Prelude.{◌≡◌, ◌∷◌, [], true, All, IfOk, map};
+ghost use Rattle.plan_nodes.specs.Kinds.{is_built};
 
 use crate::most_entries_of;
 use plan_nodes::{JoinSpec, Node, NodeKind};
@@ -9,7 +10,8 @@ use std::alloc::Global;
 use std::test::Fail;
 
 fn node(alloc: Global, kind: NodeKind, inputs: &[u32]) -> Mem<Node>
-    ensures { IfOk result (λ v. v.inputs ≡ inputs.now) }
+    ensures inputs { IfOk result (λ v. v.inputs ≡ inputs.now) }
+    ensures kind { IfOk result (λ v. v.kind ≡ kind) }
 {
     Ok(Node {
         kind,
@@ -20,13 +22,15 @@ fn node(alloc: Global, kind: NodeKind, inputs: &[u32]) -> Mem<Node>
 }
 
 fn source(alloc: Global) -> Mem<Node>
-    ensures { IfOk result (λ v. v.inputs ≡ []) }
+    ensures inputs { IfOk result (λ v. v.inputs ≡ []) }
+    ensures built { IfOk result (λ v. is_built v.kind ≡ true) }
 {
     node(alloc, NodeKind::Source(Text::of(alloc, "t")?), &[])
 }
 
 fn join(alloc: Global, left: u32, right: u32) -> Mem<Node>
-    ensures { IfOk result (λ v. v.inputs ≡ left ∷ right ∷ []) }
+    ensures inputs { IfOk result (λ v. v.inputs ≡ left ∷ right ∷ []) }
+    ensures built { IfOk result (λ v. is_built v.kind ≡ true) }
 {
     let spec = JoinSpec {
         kind: JoinKind::Full,
@@ -39,7 +43,8 @@ fn join(alloc: Global, left: u32, right: u32) -> Mem<Node>
 
 /// Two sources, a hashjoin of them, a project and the sink.
 fn worked_nodes(alloc: Global) -> Mem<Seq<Node>>
-    ensures { IfOk result (λ nodes. map (λ v. v.inputs) nodes ≡ [] ∷ [] ∷ (1 ∷ 2 ∷ []) ∷ (3 ∷ []) ∷ (4 ∷ []) ∷ []) }
+    ensures inputs { IfOk result (λ nodes. map (λ v. v.inputs) nodes ≡ [] ∷ [] ∷ (1 ∷ 2 ∷ []) ∷ (3 ∷ []) ∷ (4 ∷ []) ∷ []) }
+    ensures built { IfOk result (λ nodes. All (λ v. is_built v.kind ≡ true) nodes) }
 {
     let mut nodes = Seq::new(alloc);
     nodes.push(source(alloc)?)?;
@@ -52,7 +57,8 @@ fn worked_nodes(alloc: Global) -> Mem<Seq<Node>>
 
 /// A source, and four hashjoins, each of the node before it with itself: of three rows the last has 2^32 - 1.
 fn squares(alloc: Global) -> Mem<Seq<Node>>
-    ensures { IfOk result (λ nodes. map (λ v. v.inputs) nodes ≡ [] ∷ (1 ∷ 1 ∷ []) ∷ (2 ∷ 2 ∷ []) ∷ (3 ∷ 3 ∷ []) ∷ (4 ∷ 4 ∷ []) ∷ []) }
+    ensures inputs { IfOk result (λ nodes. map (λ v. v.inputs) nodes ≡ [] ∷ (1 ∷ 1 ∷ []) ∷ (2 ∷ 2 ∷ []) ∷ (3 ∷ 3 ∷ []) ∷ (4 ∷ 4 ∷ []) ∷ []) }
+    ensures built { IfOk result (λ nodes. All (λ v. is_built v.kind ≡ true) nodes) }
 {
     let mut nodes = Seq::new(alloc);
     nodes.push(source(alloc)?)?;
