@@ -1,7 +1,6 @@
-use Rattle.std.proofs.Common.{[], ◌∷◌, ◌++◌, take, map, sym, ap, ap₂, ◌∙◌}
+use Rattle.std.proofs.Common.{[], ◌∷◌, ◌++◌, sym, ap, ap₂, ◌∙◌}
 use Rattle.std.proofs.lemmas.List.{map_more}
 use Rattle.na_expr.specs.Evaluation.{val}
-use Rattle.col_eval.specs.Columns.{evaluated}
 use Rattle.col_eval.proofs.eval_batch.Goals as goal
 
 pub loop-row-preserved : goal.loop-row-preserved

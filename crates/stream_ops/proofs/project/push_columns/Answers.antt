@@ -1,5 +1,4 @@
 use Rattle.std.proofs.Common.{◌∙◌, sym, ap, ap₂, length, take}
-use Rattle.col_eval.specs.Columns.{evaluated}
 use Rattle.stream_ops.specs.Columns.{lengthened}
 use Rattle.stream_ops.proofs.Transposed.{projected-more, length-evaluated}
 use Rattle.stream_ops.proofs.project.push_columns.Goals as goal

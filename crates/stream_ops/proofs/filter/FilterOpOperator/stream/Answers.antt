@@ -21,7 +21,7 @@ of_rows-out-requires c =
     let values : c.as_slice.result.now ≡ evaluated c.args.self.now.condition c.args.batch.now.rows = cc (c.in_ok-values.ensures, c.as_slice.ensures) in
     let kinds : c.in_ok-kinds.kinds ≡ c.args.batch.now.kinds = cc (c.in_ok-kinds.ensures, c.kinds.ensures) in
     let rows : c.in_ok-rows.rows ≡ filtered c.args.self.now.condition c.args.batch.now.rows =
-        c.in_ok-rows.ensures ∙ ap₂ rows_where c.rows.ensures.rows values ∙ rows_where-evaluated c.args.self.now.condition c.args.batch.now.rows in
+    c.in_ok-rows.ensures ∙ ap₂ rows_where c.rows.ensures.rows values ∙ rows_where-evaluated c.args.self.now.condition c.args.batch.now.rows in
     ap₂ fit_kinds kinds rows
     ∙ fit_kinds-filter c.args.batch.now.kinds (λ row. is_true (val row c.args.self.now.condition)) c.args.batch.now.rows c.rows.ensures.fits
 
@@ -30,7 +30,7 @@ returns c streams inputs built taken fits shared local same =
     let values : c.as_slice.result.now ≡ evaluated c.args.self.now.condition c.args.batch.now.rows = cc (c.in_ok-values.ensures, c.as_slice.ensures) in
     let kinds : c.in_ok-kinds.kinds ≡ c.args.batch.now.kinds = cc (c.in_ok-kinds.ensures, c.kinds.ensures) in
     let rows : c.in_ok-rows.rows ≡ filtered c.args.self.now.condition c.args.batch.now.rows =
-        c.in_ok-rows.ensures ∙ ap₂ rows_where c.rows.ensures.rows values ∙ rows_where-evaluated c.args.self.now.condition c.args.batch.now.rows in
+    c.in_ok-rows.ensures ∙ ap₂ rows_where c.rows.ensures.rows values ∙ rows_where-evaluated c.args.self.now.condition c.args.batch.now.rows in
     let made_rows : c.of_rows-out.result.rows ≡ c.in_ok-rows.rows = cc c.of_rows-out.ensures in
     let made_kinds : c.of_rows-out.result.kinds ≡ c.in_ok-kinds.kinds = cc c.of_rows-out.ensures in (
       tt,
