@@ -1,5 +1,5 @@
 //! The operator of a node.
-ghost use Rattle.std.specs.Prelude.{◌≡◌, ◌<◌, map, IfOk, false};
+ghost use Rattle.std.specs.Prelude.{◌≡◌, ◌<◌, map, IfOk, true, false};
 ghost use Rattle.column_batch.specs.Batches.{kinds_of};
 ghost use Rattle.plan_nodes.specs.Kinds.{kind_meaning, is_source, is_built};
 ghost use Rattle.plan_nodes.specs.Operators.{first_of, second_of};

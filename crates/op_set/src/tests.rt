@@ -1,6 +1,6 @@
 //! The operator of each kind of node, through the bound.
-ghost use Rattle.std.specs.Prelude.{◌≡◌, false};
-ghost use Rattle.plan_nodes.specs.Kinds.{is_source};
+ghost use Rattle.std.specs.Prelude.{◌≡◌, true, false};
+ghost use Rattle.plan_nodes.specs.Kinds.{is_source, is_built};
 
 use crate::{AnyOp, op_of};
 use na_expr::Expr;
@@ -13,6 +13,7 @@ use std::test::Fail;
 
 fn op_for(alloc: Global, kind: NodeKind) -> Mem<AnyOp>
     requires no_source { is_source kind ≡ false }
+    requires built { is_built kind ≡ true }
 {
     let mut schema = Seq::new(alloc);
     schema.push(Field {
