@@ -11,9 +11,9 @@ use Rattle.syntax_tree.specs.declared.tree.TermKind.TheOpen as open_kind
 use Rattle.syntax_tree.specs.declared.tree.Call.{Call}
 use Rattle.syntax_tree.specs.declared.tree.Arg.{Arg}
 use Rattle.syntax_tree.specs.declared.tree.TermKind.TheFolds.{fold-Term, fold-Call, fold-Arg}
-use Rattle.term_types.specs.declared.fault.TermFault.{TermFault}
-use Rattle.term_types.specs.declared.fault.TermFaultKind.TheVariants.{UnknownColumn}
-use Rattle.term_types.specs.Faults.{and_then, fault}
+use Rattle.term_calls.specs.declared.fault.TermFault.{TermFault}
+use Rattle.term_calls.specs.declared.fault.TermFaultKind.TheVariants.{UnknownColumn}
+use Rattle.term_calls.specs.Faults.{and_then, fault}
 use Rattle.term_types.specs.Terms.{place_of, is_none}
 use Rattle.selections.specs.declared.selector.Selector.{Selector}
 use Rattle.selections.specs.Columns.{all_places, with_or_without, between, lowered, contains_text, places_that}

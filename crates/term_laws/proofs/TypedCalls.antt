@@ -10,11 +10,11 @@ use Rattle.na_expr.specs.declared.expr.TypeFault.{TypeFault}
 use Rattle.na_expr.specs.declared.expr.ExprFn.{ExprFn}
 use Rattle.na_expr.specs.declared.expr.ExprFn.TheVariants.{IfElse, Between, Coalesce, Paste0, IsIn, CaseWhen}
 use Rattle.na_expr.specs.Evaluation.{is_comparison}
-use Rattle.term_types.specs.declared.fault.TermFault.{TermFault}
-use Rattle.term_types.specs.declared.piece.Piece.{Piece}
-use Rattle.term_types.specs.Faults.{and_then, all_of, stands_at}
-use Rattle.term_types.specs.Pieces.{kind_of, type_as, expr_as, needed, needed_by, first_kind, is_free, are_free, text_of, is_literal}
-use Rattle.term_types.specs.Calls.{call_of, alone, before, beside, agreement, agreement_as, free_where, of_one, of_two, choice, within, of_three, over, in_list, choice_over, first_there, case_kind, case_args, case_kinds, case_values, cases_by, cases, of_few, of_parts, text_day, text_as_date, beside_date, has_date, comparison, operated, between_parts, piece_of_part, function_call, with_items, among_literals, membership}
+use Rattle.term_calls.specs.declared.fault.TermFault.{TermFault}
+use Rattle.term_calls.specs.declared.piece.Piece.{Piece}
+use Rattle.term_calls.specs.Faults.{and_then, all_of, stands_at}
+use Rattle.term_calls.specs.Pieces.{kind_of, type_as, expr_as, needed, needed_by, first_kind, is_free, are_free, text_of, is_literal}
+use Rattle.term_calls.specs.Calls.{call_of, alone, before, beside, agreement, agreement_as, free_where, of_one, of_two, choice, within, of_three, over, in_list, choice_over, first_there, case_kind, case_args, case_kinds, case_values, cases_by, cases, of_few, of_parts, text_day, text_as_date, beside_date, has_date, comparison, operated, between_parts, piece_of_part, function_call, with_items, among_literals, membership}
 use Rattle.term_laws.proofs.Calendar as calendar
 use Rattle.term_laws.proofs.TypedPieces.{Every, IfThere, IfGiven, every_map, then_given, every_given, stands_given, HaveTypes, IsTyped, typed_as, all_typed_as, call_typed}
 

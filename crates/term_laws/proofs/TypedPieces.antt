@@ -16,12 +16,12 @@ use Rattle.na_expr.specs.declared.expr.Expr.TheVariants.{rolls-Col, rolls-Lit, r
 use Rattle.na_expr.specs.declared.expr.Expr.TheFolds.{fold-roll-Expr}
 use Rattle.na_expr.specs.Types.{typed, step_type, takes, call_type, all_of, with_front, column_type}
 use Rattle.std.specs.Prelude.{slice_get}
-use Rattle.term_types.specs.declared.piece.Piece.{Piece}
-use Rattle.term_types.specs.declared.piece.Piece.TheVariants.{Na, Free, Number, Literal, Typed}
-use Rattle.term_types.specs.Faults.{and_then, stands_at}
-use Rattle.term_types.specs.Faults.{all_of as all_given}
-use Rattle.term_types.specs.Pieces.{type_as, expr_as}
-use Rattle.term_types.specs.Calls.{call_of, typed_piece}
+use Rattle.term_calls.specs.declared.piece.Piece.{Piece}
+use Rattle.term_calls.specs.declared.piece.Piece.TheVariants.{Na, Free, Number, Literal, Typed}
+use Rattle.term_calls.specs.Faults.{and_then, stands_at}
+use Rattle.term_calls.specs.Faults.{all_of as all_given}
+use Rattle.term_calls.specs.Pieces.{type_as, expr_as}
+use Rattle.term_calls.specs.Calls.{call_of, typed_piece}
 
 -- ---- what is said of each of a list, of one that may be there, and of one that is given where there is no fault
 

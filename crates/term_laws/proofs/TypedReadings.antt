@@ -16,16 +16,16 @@ use Rattle.token_scan.specs.declared.token.Reserved.{Reserved}
 use Rattle.token_scan.specs.declared.token.Reserved.TheVariants as word
 use Rattle.token_scan.specs.declared.token.Oper.{Oper}
 use Rattle.token_scan.specs.declared.token.Oper.TheVariants as op
-use Rattle.term_types.specs.declared.fault.TermFault.{TermFault}
-use Rattle.term_types.specs.declared.names.Callee.{Callee}
-use Rattle.term_types.specs.declared.names.Callee.TheVariants.{Row, AsDate, Grouped, LeftOut, Unknown}
-use Rattle.term_types.specs.declared.piece.Piece.{Piece}
-use Rattle.term_types.specs.declared.piece.Piece.TheVariants.{Number}
+use Rattle.term_calls.specs.declared.fault.TermFault.{TermFault}
+use Rattle.term_calls.specs.declared.names.Callee.{Callee}
+use Rattle.term_calls.specs.declared.names.Callee.TheVariants.{Row, AsDate, Grouped, LeftOut, Unknown}
+use Rattle.term_calls.specs.declared.piece.Piece.{Piece}
+use Rattle.term_calls.specs.declared.piece.Piece.TheVariants.{Number}
 use Rattle.term_types.specs.declared.cases.Cases.{Cases}
-use Rattle.term_types.specs.Faults.{and_then, stands_at}
-use Rattle.term_types.specs.Pieces.{text_of}
-use Rattle.term_types.specs.Names.{callee}
-use Rattle.term_types.specs.Calls.{of_one, cases, function_call, membership}
+use Rattle.term_calls.specs.Faults.{and_then, stands_at}
+use Rattle.term_calls.specs.Pieces.{text_of}
+use Rattle.term_calls.specs.Names.{callee}
+use Rattle.term_calls.specs.Calls.{of_one, cases, function_call, membership}
 use Rattle.term_types.specs.Terms.{Reading, Argument, none_after, plain_reading, part, place_of, field_kind, column_at, word_piece, negative, signed, operator as operator_of, between_two, is_membership, is_tilde, behind_left, binary_value, both_sides, binary_reading, unnamed, plain_argument, plain_arguments, is_none, with_sides, with_case, with_cases, no_cases, case_call, is_case_when, day_literal, only_day, date_call, any_arguments, callee_value, call_reading}
 use Rattle.term_laws.proofs.TypedPieces.{Every, IfThere, IfGiven, every_more, every_map, then_given, every_given, stands_given, IsTyped, typed_column}
 use Rattle.term_laws.proofs.TypedCalls.{PartTyped, CaseTyped, one_typed, cases_typed, text_day_is, operated_typed, function_typed, member_typed}

@@ -14,10 +14,10 @@ use Rattle.syntax_tree.specs.declared.tree.TermKind.TheOpen.{TermKind-F, Arg-F, 
 use Rattle.syntax_tree.specs.declared.tree.TermKind.TheOpen as kind
 use Rattle.syntax_tree.specs.declared.tree.TermKind.TheFolds.{map-TermKind, map-Arg, map-Call, map-Term, fold-TermKind, fold-Pipe, fold-roll-TermKind, fold-roll-Arg, fold-roll-Call, fold-roll-Term, ind-Term}
 use Rattle.syntax_tree.specs.declared.tree.TermKind.TheViews.{roll-TermKind, roll-Arg, roll-Call, roll-Term}
-use Rattle.term_types.specs.declared.fault.TermFault.{TermFault}
-use Rattle.term_types.specs.declared.piece.Piece.{Piece}
-use Rattle.term_types.specs.Faults.{and_then}
-use Rattle.term_types.specs.Pieces.{type_as, expr_as}
+use Rattle.term_calls.specs.declared.fault.TermFault.{TermFault}
+use Rattle.term_calls.specs.declared.piece.Piece.{Piece}
+use Rattle.term_calls.specs.Faults.{and_then}
+use Rattle.term_calls.specs.Pieces.{type_as, expr_as}
 use Rattle.term_types.specs.Terms.{Reading, Argument, kind_step, arg_step, call_step, pipe_step, term_step, reading, called, argument, piece}
 use Rattle.term_laws.specs.TermLaws.{TermsAreTyped, TermsAreTypedAs}
 use Rattle.term_laws.proofs.TypedPieces.{Every, IfGiven, IsTyped, typed_as}

@@ -5,8 +5,8 @@ use Rattle.row_table.specs.declared.field.Field.{Field}
 use Rattle.na_expr.specs.declared.expr.Expr.{Expr}
 use Rattle.na_expr.specs.Types.{typed}
 use Rattle.syntax_tree.specs.declared.tree.Term.{Term}
-use Rattle.term_types.specs.declared.piece.Piece.{Piece}
-use Rattle.term_types.specs.Pieces.{type_as, expr_as}
+use Rattle.term_calls.specs.declared.piece.Piece.{Piece}
+use Rattle.term_calls.specs.Pieces.{type_as, expr_as}
 use Rattle.term_types.specs.Terms.{piece, expression}
 
 -- the expression that a term is read as over these columns has the type that is told with it

@@ -3,9 +3,9 @@ use Rattle.std.specs.Prelude.{List, [], ◌∷◌, map}
 use Rattle.std.specs.List.{flat_map}
 use Rattle.scalar_value.specs.declared.value.ColType.{ColType}
 use Rattle.scalar_value.specs.declared.value.ColType.TheVariants.{Lgl}
-use Rattle.term_types.specs.declared.piece.Piece.{Piece}
+use Rattle.term_calls.specs.declared.piece.Piece.{Piece}
 use Rattle.term_types.specs.declared.cases.CaseCall.{CaseCall}
-use Rattle.term_types.specs.Pieces.{type_as, expr_as}
+use Rattle.term_calls.specs.Pieces.{type_as, expr_as}
 
 abbrev pub case_lists : ColType → List (Piece × Piece) → CaseCall
 case_lists t cs =

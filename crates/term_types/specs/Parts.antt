@@ -1,6 +1,6 @@
 -- The parts of a call as a list.
 use Rattle.std.specs.Prelude.{ℕ, List, [], ◌∷◌}
-use Rattle.term_types.specs.declared.piece.Piece.{Piece}
+use Rattle.term_calls.specs.declared.piece.Piece.{Piece}
 use Rattle.term_types.specs.declared.parts.Parts.{Parts}
 use Rattle.term_types.specs.declared.parts.Parts.TheVariants as held
 

@@ -21,17 +21,17 @@ use Rattle.syntax_tree.specs.declared.tree.TermKind.TheOpen as open_kind
 use Rattle.syntax_tree.specs.declared.tree.Call.{Call}
 use Rattle.syntax_tree.specs.declared.tree.Arg.{Arg}
 use Rattle.syntax_tree.specs.declared.tree.TermKind.TheFolds.{fold-Term, fold-Call, fold-Arg}
-use Rattle.term_types.specs.declared.fault.TermFault.{TermFault}
-use Rattle.term_types.specs.declared.fault.TermFaultKind.TheVariants.{UnknownColumn, UnknownFunction, OutOfProfile, WrongArguments, NotBuilt}
-use Rattle.term_types.specs.declared.names.Callee.{Callee}
-use Rattle.term_types.specs.declared.names.Callee.TheVariants.{Row, AsDate, Grouped, LeftOut, Unknown}
-use Rattle.term_types.specs.declared.piece.Piece.{Piece}
-use Rattle.term_types.specs.declared.piece.Piece.TheVariants.{Na, Number, Literal, Typed}
+use Rattle.term_calls.specs.declared.fault.TermFault.{TermFault}
+use Rattle.term_calls.specs.declared.fault.TermFaultKind.TheVariants.{UnknownColumn, UnknownFunction, OutOfProfile, WrongArguments, NotBuilt}
+use Rattle.term_calls.specs.declared.names.Callee.{Callee}
+use Rattle.term_calls.specs.declared.names.Callee.TheVariants.{Row, AsDate, Grouped, LeftOut, Unknown}
+use Rattle.term_calls.specs.declared.piece.Piece.{Piece}
+use Rattle.term_calls.specs.declared.piece.Piece.TheVariants.{Na, Number, Literal, Typed}
 use Rattle.term_types.specs.declared.cases.Cases.{Cases}
-use Rattle.term_types.specs.Faults.{and_then, all_of, fault, stands_at}
-use Rattle.term_types.specs.Pieces.{type_as, expr_as, text_of}
-use Rattle.term_types.specs.Calls.{of_one, cases, text_day, operated, function_call, membership}
-use Rattle.term_types.specs.Names.{callee}
+use Rattle.term_calls.specs.Faults.{and_then, all_of, fault, stands_at}
+use Rattle.term_calls.specs.Pieces.{type_as, expr_as, text_of}
+use Rattle.term_calls.specs.Calls.{of_one, cases, text_day, operated, function_call, membership}
+use Rattle.term_calls.specs.Names.{callee}
 
 -- what is read of a term: its place; its part as an expression; the parts of its list where it is a `c(..)`; and its two sides
 -- where it is a condition with its value, `c ~ v`

@@ -2,18 +2,18 @@ ghost use Rattle.std.specs.Prelude.{◌≡◌, ◌∷◌, ◌++◌, [], IfOk, On
 ghost use Rattle.std.specs.List.{flat_map};
 ghost use Rattle.scalar_value.specs.Gives.{Gives};
 ghost use Rattle.scalar_value.specs.declared.value.ColType.TheVariants.{Lgl};
-ghost use Rattle.term_types.specs.Faults.{stands_at};
-ghost use Rattle.term_types.specs.Pieces.{kind_of, type_as, expr_as};
-ghost use Rattle.term_types.specs.Calls.{cases as cases_made, cases_by, case_kind as first_case_kind, case_args, case_kinds, case_values, default_kind, default_of};
+ghost use Rattle.term_calls.specs.Faults.{stands_at};
+ghost use Rattle.term_calls.specs.Pieces.{kind_of, type_as, expr_as};
+ghost use Rattle.term_calls.specs.Calls.{cases as cases_made, cases_by, case_kind as first_case_kind, case_args, case_kinds, case_values, default_kind, default_of};
 ghost use Rattle.term_types.specs.Collecting.{case_lists};
 ghost use Rattle.term_types.specs.Terms.{case_call as case_called};
 
-use crate::calls::{agreement, call_of, free_where};
-use crate::fault::{TermFault, TermFaultKind, fault};
-use crate::piece::{Piece, needed_beside};
 use na_expr::{Expr, ExprFn};
 use scalar_value::{ColType, Mem, Res, Seq};
 use std::alloc::Global;
+use term_calls::{
+    Piece, TermFault, TermFaultKind, agreement, call_of, fault_at, free_where, needed_beside,
+};
 
 /// The arguments of a `case_when` so far: its conditions with their values, its default, and whether an argument is no
 /// condition with a value.
@@ -108,7 +108,7 @@ fn case_arguments(
     Ok(made)
 }
 
-#[tactic(auto, using(crate::proofs::Choices::free_given, crate::proofs::Choices::free_faulty), unfolding(crate::specs::Calls::cases_by))]
+#[tactic(auto, using(term_calls::proofs::Choices::free_given, term_calls::proofs::Choices::free_faulty), unfolding(term_calls::specs::Calls::cases_by))]
 /// A `case_when` with at least one condition, by the type of its first value that has one.
 fn case_when(
     alloc: Global,
@@ -131,7 +131,7 @@ pub fn case_call(alloc: Global, at: u32, had: Cases) -> Res<Piece, TermFault>
     ensures { Gives result (case_called at had) }
 {
     if had.stray || had.conditions.is_empty() {
-        return Err(fault(TermFaultKind::WrongArguments, at));
+        return Err(fault_at(TermFaultKind::WrongArguments, at));
     }
     case_when(alloc, at, had.conditions, had.default)
 }

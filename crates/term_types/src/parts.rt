@@ -1,11 +1,10 @@
 ghost use Rattle.std.specs.Prelude.{◌≡◌, ◌∷◌, ◌++◌, [], IfOk, map};
 ghost use Rattle.term_types.specs.Parts.{parts_list};
-ghost use Rattle.term_types.specs.Calls.{piece_of_part};
+ghost use Rattle.term_calls.specs.Calls.{piece_of_part};
 
-use crate::calls::Part;
-use crate::piece::Piece;
 use scalar_value::{Mem, Seq};
 use std::alloc::Global;
+use term_calls::{Part, Piece};
 
 /// The parts of a call by their number, so that each can be moved out.
 #[derive(Debug, Drop)]

@@ -1,23 +1,21 @@
 ghost use Rattle.std.specs.Prelude.{◌≡◌, ◌∷◌, [], Err, map, false};
 ghost use Rattle.scalar_value.specs.Gives.{Gives};
-ghost use Rattle.term_types.specs.Faults.{and_then, all_of};
+ghost use Rattle.term_calls.specs.Faults.{and_then, all_of};
 ghost use Rattle.term_types.specs.Parts.{parts_list};
-ghost use Rattle.term_types.specs.Calls.{function_call as functions_call, is_list_call};
+ghost use Rattle.term_calls.specs.Calls.{function_call as functions_call, is_list_call};
 ghost use Rattle.term_types.specs.Terms.{reading, called, argument, piece as piece_read, expression as expression_read, place_of as place_named, column_at, word_piece as word_read, negative as negative_read, signed as signed_read, operator as operator_named, part, behind_left as left_read, between_two as between_made, is_membership as membership_named, is_tilde as tilde_named, only_day as day_in, day_literal as day_made, plain_arguments as plain_read, plain_argument as plain_one, any_arguments, with_case as with_one_case, with_cases as with_all_cases, no_cases, row_call as row_called, date_call as date_called};
 
-use crate::calls::{
-    Part, between_parts, first_there, membership, of_one, of_three, of_two, operated, pasted,
-};
 use crate::cases::{Cases, case_call};
-use crate::fault::{TermFault, TermFaultKind, fault};
-use crate::names::{Callee, callee_named};
 use crate::parts::{Parts, pieces_of};
-use crate::piece::Piece;
 use na_expr::{Expr, ExprFn, negated};
 use row_table::{Field, Schema};
 use scalar_value::{ColType, Or, Res, Seq, Text, Value};
 use std::alloc::Global;
 use syntax_tree::{Arg, Call, Term, TermKind};
+use term_calls::{
+    Callee, Part, Piece, TermFault, TermFaultKind, between_parts, callee_named, fault_at,
+    first_there, membership, of_one, of_three, of_two, operated, pasted,
+};
 use token_scan::{Oper, Reserved};
 
 fn place_of(fields: &[Field], name: &Text) -> Option<usize>
@@ -32,7 +30,7 @@ fn column(schema: &Schema, at: u32, name: &Text) -> Res<Piece, TermFault>
     ensures { Gives result (column_at schema.now at (place_named name.now schema.now)) }
 {
     let Some(place) = place_of(schema.as_slice(), name) else {
-        return Err(fault(TermFaultKind::UnknownColumn, at));
+        return Err(fault_at(TermFaultKind::UnknownColumn, at));
     };
     match (u32::try_from(place), schema.get(place)) {
         (Ok(column), Some(field)) => Ok(Piece::Typed(Expr::Col(column), field.kind)),
@@ -71,7 +69,7 @@ fn signed(alloc: Global, at: u32, oper: Oper, operand: Piece) -> Res<Piece, Term
     match oper {
         Oper::Sub => negative(alloc, at, operand),
         Oper::Not => of_one(alloc, at, ExprFn::Not, operand),
-        _ => Err(fault(TermFaultKind::WrongArguments, at)),
+        _ => Err(fault_at(TermFaultKind::WrongArguments, at)),
     }
 }
 
@@ -98,7 +96,7 @@ fn operator(oper: Oper) -> Option<ExprFn>
     }
 }
 
-#[tactic(auto, unfolding(crate::specs::Calls::function_call))]
+#[tactic(auto, unfolding(term_calls::specs::Calls::function_call))]
 /// A call of a row function other than `case_when`.
 fn function_call(
     alloc: Global,
@@ -115,7 +113,7 @@ fn function_call(
     }
 }
 
-#[tactic(auto, unfolding(crate::specs::Calls::function_call))]
+#[tactic(auto, unfolding(term_calls::specs::Calls::function_call))]
 /// A call of a function of one to three values.
 fn few_parts(alloc: Global, at: u32, function: ExprFn, parts: Parts) -> Res<Piece, TermFault>
     requires { is_list_call function ≡ false }
@@ -125,12 +123,12 @@ fn few_parts(alloc: Global, at: u32, function: ExprFn, parts: Parts) -> Res<Piec
         Parts::One(a) => of_one(alloc, at, function, a.1),
         Parts::Two(a, b) => of_two(alloc, at, function, a.1, b.1),
         Parts::Three(a, b, c) => three_parts(alloc, at, function, a, b, c),
-        Parts::None => Err(fault(TermFaultKind::WrongArguments, at)),
-        Parts::More(_, _, _, _, _) => Err(fault(TermFaultKind::WrongArguments, at)),
+        Parts::None => Err(fault_at(TermFaultKind::WrongArguments, at)),
+        Parts::More(_, _, _, _, _) => Err(fault_at(TermFaultKind::WrongArguments, at)),
     }
 }
 
-#[tactic(auto, unfolding(crate::specs::Calls::function_call))]
+#[tactic(auto, unfolding(term_calls::specs::Calls::function_call))]
 /// A call of a function of three values.
 fn three_parts(
     alloc: Global,
@@ -167,8 +165,8 @@ fn day_literal(at: u32, day: Option<Option<i32>>) -> Res<Piece, TermFault>
 {
     match day {
         Some(Some(day)) => Ok(Piece::Literal(Value::Day(day), ColType::Date)),
-        Some(None) => Err(fault(TermFaultKind::WrongArguments, at)),
-        None => Err(fault(TermFaultKind::WrongArguments, at)),
+        Some(None) => Err(fault_at(TermFaultKind::WrongArguments, at)),
+        None => Err(fault_at(TermFaultKind::WrongArguments, at)),
     }
 }
 
@@ -209,7 +207,7 @@ fn between_two(
 {
     match operator(oper) {
         Some(function) => operated(alloc, at, function, first, second),
-        None => Err(fault(TermFaultKind::WrongArguments, at)),
+        None => Err(fault_at(TermFaultKind::WrongArguments, at)),
     }
 }
 
@@ -241,7 +239,7 @@ pub fn piece_of(alloc: Global, schema: &Schema, term: &Term) -> Res<Piece, TermF
             behind_left(alloc, schema, at, *oper, first, right.get())
         }
         TermKind::Call(call) => call_piece(alloc, schema, call),
-        TermKind::Pipe(_) => Err(fault(TermFaultKind::WrongArguments, at)),
+        TermKind::Pipe(_) => Err(fault_at(TermFaultKind::WrongArguments, at)),
     }
 }
 
@@ -317,7 +315,7 @@ fn call_piece(alloc: Global, schema: &Schema, call: &Call) -> Res<Piece, TermFau
             let parts = plain_arguments(alloc, schema, &call.args)?;
             date_call(at, parts.as_slice())
         }
-        Callee::Grouped => Err(fault(TermFaultKind::NotBuilt, at)),
+        Callee::Grouped => Err(fault_at(TermFaultKind::NotBuilt, at)),
         Callee::LeftOut => refused(alloc, schema, &call.args, TermFaultKind::OutOfProfile, at),
         Callee::Unknown => refused(
             alloc,
@@ -366,7 +364,7 @@ fn refused(
     for arg in args.as_slice() {
         piece_of(alloc, schema, &arg.value)?;
     }
-    Err(fault(kind, at))
+    Err(fault_at(kind, at))
 }
 
 #[cycle(reading)]
@@ -375,7 +373,7 @@ fn plain_argument(alloc: Global, schema: &Schema, arg: &Arg) -> Res<Part, TermFa
     ensures { Gives result (plain_one (argument schema.now arg.now)) }
 {
     match &arg.name {
-        Some(_) => Err(fault(TermFaultKind::WrongArguments, arg.at)),
+        Some(_) => Err(fault_at(TermFaultKind::WrongArguments, arg.at)),
         None => part_of(alloc, schema, &arg.value),
     }
 }
@@ -400,7 +398,7 @@ fn with_case(alloc: Global, schema: &Schema, mut had: Cases, arg: &Arg) -> Res<C
     match &arg.name {
         Some(name) => {
             if name.as_str() != ".default" || had.default.is_some() {
-                return Err(fault(TermFaultKind::WrongArguments, arg.at));
+                return Err(fault_at(TermFaultKind::WrongArguments, arg.at));
             }
             had.default = Some(piece_of(alloc, schema, &arg.value)?);
         }

@@ -12,9 +12,9 @@ use Rattle.na_expr.specs.Operators.{carried}
 use Rattle.na_expr.proofs.TypedOperators.{missing, typed_from, is_typed, widens, widened}
 use Rattle.syntax_tree.specs.declared.tree.Term.{out-Term}
 use Rattle.syntax_tree.specs.declared.tree.Arg.{Arg}
-use Rattle.term_types.specs.declared.piece.Piece.{Piece}
-use Rattle.term_types.specs.declared.piece.Piece.TheVariants.{Na, Free, Number, Literal, Typed}
-use Rattle.term_types.specs.Faults.{and_then, all_of}
+use Rattle.term_calls.specs.declared.piece.Piece.{Piece}
+use Rattle.term_calls.specs.declared.piece.Piece.TheVariants.{Na, Free, Number, Literal, Typed}
+use Rattle.term_calls.specs.Faults.{and_then, all_of}
 use Rattle.term_types.specs.Terms.{piece, place_of}
 use Rattle.term_laws.proofs.TypedPieces.{IfGiven, then_given, IsTyped}
 use Rattle.term_laws.proofs.TypedTerms.{terms_hold}

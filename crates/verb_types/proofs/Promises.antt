@@ -12,8 +12,8 @@ use Rattle.na_expr.specs.declared.expr.Expr.{Expr}
 use Rattle.na_expr.specs.Types.{typed}
 use Rattle.syntax_tree.specs.declared.tree.Term.{Term, out-Term}
 use Rattle.syntax_tree.specs.declared.tree.Arg.{Arg}
-use Rattle.term_types.specs.declared.fault.TermFault.{TermFault}
-use Rattle.term_types.specs.Faults.{and_then, all_of}
+use Rattle.term_calls.specs.declared.fault.TermFault.{TermFault}
+use Rattle.term_calls.specs.Faults.{and_then, all_of}
 use Rattle.term_types.specs.Terms.{expression, place_of}
 use Rattle.term_laws.proofs.TypedPieces.{IfGiven, then_given}
 use Rattle.term_laws.proofs.TypedTerms.{terms_are_typed}

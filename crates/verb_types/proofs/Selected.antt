@@ -14,8 +14,8 @@ use Rattle.syntax_tree.specs.declared.tree.TermKind.TheOpen.{TermKind-F, Arg-F, 
 use Rattle.syntax_tree.specs.declared.tree.TermKind.TheOpen as kind
 use Rattle.syntax_tree.specs.declared.tree.TermKind.TheFolds.{map-TermKind, map-Arg, map-Call, map-Term, fold-TermKind, fold-Pipe, fold-roll-TermKind, fold-roll-Arg, fold-roll-Call, fold-roll-Term, ind-Term}
 use Rattle.syntax_tree.specs.declared.tree.TermKind.TheViews.{roll-TermKind, roll-Arg, roll-Call, roll-Term}
-use Rattle.term_types.specs.declared.fault.TermFault.{TermFault}
-use Rattle.term_types.specs.Faults.{and_then}
+use Rattle.term_calls.specs.declared.fault.TermFault.{TermFault}
+use Rattle.term_calls.specs.Faults.{and_then}
 use Rattle.term_types.specs.Terms.{place_of}
 use Rattle.term_laws.proofs.TypedPieces.{Every, IfGiven, then_given}
 use Rattle.selections.specs.declared.selector.Selector.{Selector}

@@ -6,8 +6,8 @@ use Rattle.scalar_value.specs.Gives.{Gives}
 use Rattle.row_table.specs.Tables.{names_differ}
 use Rattle.syntax_tree.specs.declared.tree.Arg.{Arg}
 use Rattle.syntax_tree.specs.declared.tree.Call.{Call, out-Call}
-use Rattle.term_types.specs.declared.fault.TermFault.{TermFault}
-use Rattle.term_types.specs.Faults.{and_then}
+use Rattle.term_calls.specs.declared.fault.TermFault.{TermFault}
+use Rattle.term_calls.specs.Faults.{and_then}
 use Rattle.term_laws.proofs.TypedPieces.{IfGiven, then_given}
 use Rattle.verb_forms.specs.declared.verb.Verb.{Verb}
 use Rattle.verb_forms.specs.Shapes.{ShapeValue, IsShape}

@@ -3,9 +3,9 @@ use Rattle.std.proofs.Common.{◌≡◌, ℕ, refl, sym, ap, ◌∙◌, true, fa
 use Rattle.std.specs.Prelude.{filter}
 use Rattle.row_table.specs.declared.field.Field.{Field}
 use Rattle.syntax_tree.specs.declared.tree.Arg.{Arg}
-use Rattle.term_types.specs.declared.fault.TermFault.{TermFault}
-use Rattle.term_types.specs.Faults.{and_then}
-use Rattle.term_types.proofs.Collected.{behind}
+use Rattle.term_calls.specs.declared.fault.TermFault.{TermFault}
+use Rattle.term_calls.specs.Faults.{and_then}
+use Rattle.term_calls.proofs.Collected.{behind}
 use Rattle.verb_arguments.specs.Arguments.{value_of, is_unnamed}
 use Rattle.verb_types.specs.Steps.{column_of, columns_of}
 use Rattle.verb_types.specs.Working.{with_all_unnamed}

@@ -6,10 +6,10 @@ use Rattle.std.specs.List.{list_any}
 use Rattle.row_table.specs.Tables.{names_differ}
 use Rattle.syntax_tree.specs.declared.tree.Arg.{Arg}
 use Rattle.syntax_tree.specs.declared.tree.Call.{Call, out-Call}
-use Rattle.term_types.specs.declared.fault.TermFault.{TermFault}
-use Rattle.term_types.specs.declared.fault.TermFaultKind.{TermFaultKind}
-use Rattle.term_types.specs.declared.fault.TermFaultKind.TheVariants as term
-use Rattle.term_types.specs.Faults.{and_then}
+use Rattle.term_calls.specs.declared.fault.TermFault.{TermFault}
+use Rattle.term_calls.specs.declared.fault.TermFaultKind.{TermFaultKind}
+use Rattle.term_calls.specs.declared.fault.TermFaultKind.TheVariants as term
+use Rattle.term_calls.specs.Faults.{and_then}
 use Rattle.verb_forms.specs.declared.verb.Verb.{Verb}
 use Rattle.verb_forms.specs.After.{after}
 use Rattle.verb_forms.specs.Shapes.{ShapeValue}

@@ -12,11 +12,11 @@ use Rattle.na_expr.specs.Operators.{carried}
 use Rattle.na_expr.specs.Types.{is_kind}
 use Rattle.syntax_tree.specs.declared.tree.Term.{Term, out-Term}
 use Rattle.syntax_tree.specs.declared.tree.Arg.{Arg}
-use Rattle.term_types.specs.declared.fault.TermFault.{TermFault}
-use Rattle.term_types.specs.declared.fault.TermFaultKind.TheVariants.{UnknownColumn, WrongArguments, WrongType}
-use Rattle.term_types.specs.declared.piece.Piece.{Piece}
-use Rattle.term_types.specs.declared.piece.Piece.TheVariants.{Na, Free, Number, Literal, Typed}
-use Rattle.term_types.specs.Faults.{and_then, all_of, fault}
+use Rattle.term_calls.specs.declared.fault.TermFault.{TermFault}
+use Rattle.term_calls.specs.declared.fault.TermFaultKind.TheVariants.{UnknownColumn, WrongArguments, WrongType}
+use Rattle.term_calls.specs.declared.piece.Piece.{Piece}
+use Rattle.term_calls.specs.declared.piece.Piece.TheVariants.{Na, Free, Number, Literal, Typed}
+use Rattle.term_calls.specs.Faults.{and_then, all_of, fault}
 use Rattle.term_types.specs.Terms.{piece, expression, place_of}
 use Rattle.verb_forms.specs.declared.part.Part.{Part}
 use Rattle.verb_forms.specs.declared.verb.Verb.{Verb}

@@ -2,8 +2,8 @@
 use Rattle.std.specs.Prelude.{ℕ, Bool, true, false, not, ◌&&◌, if◌then◌else◌, codes, Some, Result, Ok, List, [], ◌∷◌, ◌++◌, IsTrue}
 use Rattle.row_table.specs.declared.field.Field.{Field}
 use Rattle.syntax_tree.specs.declared.tree.Arg.{Arg}
-use Rattle.term_types.specs.declared.fault.TermFault.{TermFault}
-use Rattle.term_types.specs.Faults.{and_then}
+use Rattle.term_calls.specs.declared.fault.TermFault.{TermFault}
+use Rattle.term_calls.specs.Faults.{and_then}
 use Rattle.row_table.specs.Tables.{names_differ, are_groups}
 use Rattle.verb_forms.specs.declared.verb.Verb.{Verb}
 use Rattle.verb_forms.specs.After.{after}

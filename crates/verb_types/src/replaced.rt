@@ -2,7 +2,7 @@ ghost use Rattle.std.specs.Prelude.{◌≡◌, map, pos};
 ghost use Rattle.std.specs.Option.{option_copied};
 ghost use Rattle.scalar_value.specs.Gives.{Gives};
 ghost use Rattle.na_expr.specs.Operators.{carried as carried_value};
-ghost use Rattle.term_types.specs.Faults.{all_of};
+ghost use Rattle.term_calls.specs.Faults.{all_of};
 ghost use Rattle.verb_types.specs.Steps.{takes_literal as literal_fits, value_for as value_read, replacement as replacement_read, replaced_column as replaced_read, listed as list_arguments, replace_na_of as replace_na_read};
 
 use crate::columns::{column_or_unknown, kind_at, name_or_empty};

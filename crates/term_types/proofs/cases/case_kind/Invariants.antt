@@ -1,5 +1,5 @@
 use Rattle.std.proofs.Common.{◌≡◌, drop}
-use Rattle.term_types.specs.Calls.{case_kind}
+use Rattle.term_calls.specs.Calls.{case_kind}
 use Rattle.term_types.proofs.cases.case_kind.Given as goal
 
 abbrev pub invariant-loop-case : goal.invariant-loop-case

@@ -1,8 +1,8 @@
 use Rattle.std.proofs.Common.{◌≡◌, map, drop, List, Err}
-use Rattle.term_types.specs.declared.piece.Piece.{Piece}
-use Rattle.term_types.specs.Faults.{and_then, all_of}
+use Rattle.term_calls.specs.declared.piece.Piece.{Piece}
+use Rattle.term_calls.specs.Faults.{and_then, all_of}
 use Rattle.term_types.specs.Terms.{argument, any_arguments, plain_arguments, plain_argument, with_cases, no_cases}
-use Rattle.term_types.proofs.Collected.{behind}
+use Rattle.term_calls.proofs.Collected.{behind}
 use Rattle.term_types.proofs.terms.+reading.Given as goal
 
 abbrev pub invariant-refused-loop-arg : goal.invariant-refused-loop-arg

@@ -1,5 +1,5 @@
 use Rattle.std.proofs.Common.{◌≡◌, map, drop}
-use Rattle.term_types.proofs.Collected.{behind}
+use Rattle.term_calls.proofs.Collected.{behind}
 use Rattle.verb_arguments.specs.Arguments.{value_of}
 use Rattle.verb_types.specs.Steps.{columns_of}
 use Rattle.verb_types.proofs.columns.columns_of.Given as goal

@@ -1,6 +1,6 @@
 use Rattle.std.proofs.Common.{◌≡◌, map, drop}
-use Rattle.term_types.specs.Faults.{all_of}
-use Rattle.term_types.proofs.Collected.{behind}
+use Rattle.term_calls.specs.Faults.{all_of}
+use Rattle.term_calls.proofs.Collected.{behind}
 use Rattle.verb_types.specs.Steps.{replaced_column}
 use Rattle.verb_types.proofs.replaced.replaced_columns.Given as goal
 

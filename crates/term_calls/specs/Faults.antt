@@ -2,9 +2,9 @@
 use Rattle.std.specs.Prelude.{ℕ, Result, Ok, Err, List, [], ◌∷◌}
 use Rattle.na_expr.specs.declared.expr.TypeFault.{TypeFault}
 use Rattle.na_expr.specs.declared.expr.TypeFault.TheVariants as type_fault
-use Rattle.term_types.specs.declared.fault.TermFault.{TermFault}
-use Rattle.term_types.specs.declared.fault.TermFaultKind.{TermFaultKind}
-use Rattle.term_types.specs.declared.fault.TermFaultKind.TheVariants.{UnknownColumn, WrongArguments, WrongType}
+use Rattle.term_calls.specs.declared.fault.TermFault.{TermFault}
+use Rattle.term_calls.specs.declared.fault.TermFaultKind.{TermFaultKind}
+use Rattle.term_calls.specs.declared.fault.TermFaultKind.TheVariants.{UnknownColumn, WrongArguments, WrongType}
 
 -- a step on what the one before it gives, or the fault of that one
 abbrev pub and_then : {A B F : Type 0} → Result A F → (A → Result B F) → Result B F

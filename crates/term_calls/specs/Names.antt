@@ -4,10 +4,10 @@ use Rattle.std.specs.Str.{bytes_eq}
 use Rattle.scalar_value.specs.declared.value.ColType.TheVariants.{Lgl}
 use Rattle.na_expr.specs.declared.expr.ExprFn.{ExprFn}
 use Rattle.na_expr.specs.declared.expr.ExprFn.TheVariants as call
-use Rattle.term_types.specs.declared.names.OtherName.{OtherName}
-use Rattle.term_types.specs.declared.names.OtherName.TheVariants as name
-use Rattle.term_types.specs.declared.names.Callee.{Callee}
-use Rattle.term_types.specs.declared.names.Callee.TheVariants.{Row, AsDate, Grouped, LeftOut, Unknown}
+use Rattle.term_calls.specs.declared.names.OtherName.{OtherName}
+use Rattle.term_calls.specs.declared.names.OtherName.TheVariants as name
+use Rattle.term_calls.specs.declared.names.Callee.{Callee}
+use Rattle.term_calls.specs.declared.names.Callee.TheVariants.{Row, AsDate, Grouped, LeftOut, Unknown}
 
 abbrev pub function_name : ExprFn → List ℕ
 function_name call.IsNa = codes "is.na"

@@ -1,11 +1,11 @@
 use Rattle.std.proofs.Common.{◌≡◌, ◌∙◌, sym, ap, subst, Ok}
 use Rattle.scalar_value.specs.declared.value.ColType.{ColType}
-use Rattle.term_types.specs.declared.piece.Piece.{Piece}
-use Rattle.term_types.specs.Calls.{choice_over, over}
-use Rattle.term_types.specs.Faults.{stands_at}
-use Rattle.term_types.specs.Pieces.{is_free, needed_by}
-use Rattle.term_types.proofs.Choices.{free_given}
-use Rattle.term_types.proofs.calls.choice_over.Goals as goal
+use Rattle.term_calls.specs.declared.piece.Piece.{Piece}
+use Rattle.term_calls.specs.Calls.{choice_over, over}
+use Rattle.term_calls.specs.Faults.{stands_at}
+use Rattle.term_calls.specs.Pieces.{is_free, needed_by}
+use Rattle.term_calls.proofs.Choices.{free_given}
+use Rattle.term_calls.proofs.calls.choice_over.Goals as goal
 
 pub returns : goal.returns
 unfolding choice_over

@@ -1,6 +1,6 @@
 ghost use Rattle.std.specs.Prelude.{◌≡◌, IfOk, map};
-ghost use Rattle.term_types.specs.Calls.{text_day};
-ghost use Rattle.term_types.specs.Pieces.{kind_of, type_as, expr_as, is_literal as literal, text_of, first_of_numbers, first_kind, needed_by};
+ghost use Rattle.term_calls.specs.Calls.{text_day};
+ghost use Rattle.term_calls.specs.Pieces.{kind_of, type_as, expr_as, is_literal as literal, text_of, first_of_numbers, first_kind, needed_by};
 
 use na_expr::Expr;
 use scalar_fns::read_day;
@@ -21,7 +21,7 @@ pub enum Piece {
 }
 
 impl Piece {
-    /// An equal part.
+    /// An equal part, or want of memory.
     pub fn copy(&self) -> Mem<Piece>
         ensures { IfOk result (λ made. made ≡ self.now) }
     {
@@ -93,7 +93,8 @@ fn first_number(kind: ColType) -> ColType
     }
 }
 
-/// The type that is needed of a free part, by the type of the first part that has one.
+/// The type that is needed of a free part, by the type of the first part that has one: that type, a whole number where it is
+/// a decimal, and lgl where no part has one.
 pub fn needed_beside(kind: Option<ColType>) -> ColType
     ensures { result ≡ needed_by kind }
 {

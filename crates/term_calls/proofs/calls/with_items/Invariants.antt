@@ -1,8 +1,8 @@
 use Rattle.std.proofs.Common.{◌≡◌, map}
-use Rattle.term_types.specs.Calls.{with_items, beside_date}
-use Rattle.term_types.specs.Faults.{all_of}
-use Rattle.term_types.proofs.Collected.{behind}
-use Rattle.term_types.proofs.calls.with_items.Given as goal
+use Rattle.term_calls.specs.Calls.{with_items, beside_date}
+use Rattle.term_calls.specs.Faults.{all_of}
+use Rattle.term_calls.proofs.Collected.{behind}
+use Rattle.term_calls.proofs.calls.with_items.Given as goal
 
 abbrev pub invariant-loop-item : goal.invariant-loop-item
 invariant-loop-item l =

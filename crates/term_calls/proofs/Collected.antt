@@ -1,7 +1,7 @@
 -- What is given one after the other: all of it, or the first fault.
 use Rattle.std.proofs.Common.{ℕ, suc, ◌+◌, ◌<◌, ◌≤◌, ◌≡◌, refl, sym, ap, ◌∙◌, List, [], ◌∷◌, ◌++◌, length, map, drop, get_or, arith, drop-cons, append_assoc, append-nil, Result, Ok, Err}
 use Rattle.std.proofs.lemmas.List.{drop_all}
-use Rattle.term_types.specs.Faults.{and_then, all_of}
+use Rattle.term_calls.specs.Faults.{and_then, all_of}
 
 -- what is left, behind what has been given
 abbrev pub behind : {A F : Type 0} → List A → Result (List A) F → Result (List A) F

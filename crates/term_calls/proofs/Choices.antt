@@ -1,10 +1,10 @@
 -- A choice among free values, where its call gives a part or a fault.
 use Rattle.std.proofs.Common.{ℕ, Bool, ◌≡◌, ap, Result, Ok, Err}
 use Rattle.na_expr.specs.declared.expr.TypeFault.{TypeFault}
-use Rattle.term_types.specs.declared.fault.TermFault.{TermFault}
-use Rattle.term_types.specs.declared.piece.Piece.{Piece}
-use Rattle.term_types.specs.Faults.{stands_at}
-use Rattle.term_types.specs.Calls.{free_where, freed}
+use Rattle.term_calls.specs.declared.fault.TermFault.{TermFault}
+use Rattle.term_calls.specs.declared.piece.Piece.{Piece}
+use Rattle.term_calls.specs.Faults.{stands_at}
+use Rattle.term_calls.specs.Calls.{free_where, freed}
 
 pub free_given : (free : Bool) (at : ℕ) (r : Result Piece TypeFault) (p : Piece) → stands_at at r ≡ Ok p → stands_at at (free_where free r) ≡ Ok (freed free p)
 free_given free at (Ok q) p h = let same : q ≡ p = cc in ap (λ x. Ok (freed free x)) same

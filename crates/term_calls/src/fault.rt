@@ -1,6 +1,6 @@
 ghost use Rattle.std.specs.Prelude.{◌≡◌};
 ghost use Rattle.scalar_value.specs.declared.memory.Or.TheVariants.{Fault};
-ghost use Rattle.term_types.specs.Faults.{kind_of_fault};
+ghost use Rattle.term_calls.specs.Faults.{kind_of_fault};
 
 use na_expr::TypeFault;
 use scalar_value::Or;
@@ -24,8 +24,8 @@ pub enum TermFaultKind {
     NotBuilt,
 }
 
-/// A fault at a place.
-pub fn fault(kind: TermFaultKind, at: u32) -> Or<TermFault>
+/// A fault of this kind at this byte place.
+pub fn fault_at(kind: TermFaultKind, at: u32) -> Or<TermFault>
     ensures { result ≡ Fault (record { kind = kind; at = at }) }
 {
     Or::Fault(TermFault { kind, at })

@@ -1,13 +1,13 @@
 ghost use Rattle.std.specs.Prelude.{◌≡◌, ◌∷◌, [], IfOk, map};
 ghost use Rattle.std.specs.List.{list_all};
 ghost use Rattle.scalar_value.specs.Gives.{Gives};
-ghost use Rattle.term_types.specs.Faults.{and_then, all_of, stands_at};
-ghost use Rattle.term_types.specs.Calls.{call_of as call_made, alone as wanted_alone, is_logic as logic, before as wanted_left, beside as wanted_right, is_date as date_kind, of_one as one_called, of_two as two_called, of_three as three_called, choice as choice_made, within as within_made, text_part as text_part_made, agreement as values_agree, over as over_all, in_list as in_all, first_there as first_of_all, beside_date as read_beside, has_date as dated_part, comparison as compared, operated as operator_made, between_parts as between_made, with_items as items_joined, membership as member, among_items as items_searched, among_literals as literals_searched, choice_over as chosen_over, agreement_as as parts_agree};
-ghost use Rattle.term_types.specs.Calls.{freed};
-ghost use Rattle.term_types.specs.Pieces.{kind_of, type_as, first_kind, is_free, is_literal as literal};
+ghost use Rattle.term_calls.specs.Faults.{and_then, all_of, stands_at};
+ghost use Rattle.term_calls.specs.Calls.{call_of as call_made, alone as wanted_alone, is_logic as logic, before as wanted_left, beside as wanted_right, is_date as date_kind, of_one as one_called, of_two as two_called, of_three as three_called, choice as choice_made, within as within_made, text_part as text_part_made, agreement as values_agree, over as over_all, in_list as in_all, first_there as first_of_all, beside_date as read_beside, has_date as dated_part, comparison as compared, operated as operator_made, between_parts as between_made, with_items as items_joined, membership as member, among_items as items_searched, among_literals as literals_searched, choice_over as chosen_over, agreement_as as parts_agree};
+ghost use Rattle.term_calls.specs.Calls.{freed};
+ghost use Rattle.term_calls.specs.Pieces.{kind_of, type_as, first_kind, is_free, is_literal as literal};
 ghost use Rattle.na_expr.specs.Evaluation.{is_comparison as comparing, is_text_test as text_testing};
 
-use crate::fault::{TermFault, TermFaultKind, fault, type_fault};
+use crate::fault::{TermFault, TermFaultKind, fault_at, type_fault};
 use crate::piece::{Piece, first_typed, needed_beside};
 use na_expr::{Expr, ExprFn, call_type, common_type};
 use scalar_value::{ColType, Mem, Res, Seq, Value};
@@ -17,7 +17,8 @@ use std::alloc::Global;
 pub type Part = (u32, Piece);
 
 #[tactic(auto, unfolding(crate::specs::Calls::call_of))]
-/// The call of a function over expressions of these types.
+/// The call of a function over expressions of these types, with the type of its value, or the fault of these types at the
+/// call.
 pub fn call_of(
     at: u32,
     function: ExprFn,
@@ -139,7 +140,7 @@ fn before(function: ExprFn, other: Option<ColType>) -> ColType
 }
 
 #[tactic(auto, unfolding(crate::specs::Calls::of_one))]
-/// A function of one value.
+/// A function of one value: its call with its type, or the fault of its types at the call; or want of memory.
 pub fn of_one(alloc: Global, at: u32, function: ExprFn, a: Piece) -> Res<Piece, TermFault>
     ensures { Gives result (stands_at at (one_called function a)) }
 {
@@ -150,7 +151,7 @@ pub fn of_one(alloc: Global, at: u32, function: ExprFn, a: Piece) -> Res<Piece, 
 }
 
 #[tactic(auto, unfolding(crate::specs::Calls::of_two))]
-/// A function of two values.
+/// A function of two values: its call with its type, or the fault of its types at the call; or want of memory.
 pub fn of_two(alloc: Global, at: u32, function: ExprFn, a: Piece, b: Piece) -> Res<Piece, TermFault>
     ensures { Gives result (stands_at at (two_called function a b)) }
 {
@@ -161,7 +162,7 @@ pub fn of_two(alloc: Global, at: u32, function: ExprFn, a: Piece, b: Piece) -> R
     call_of(at, function, args, &kinds)
 }
 
-/// The type on which values agree.
+/// The type on which values agree; lgl where they do not, and then their call has a wrong type.
 pub fn agreement(kinds: &[ColType]) -> ColType
     ensures { result ≡ values_agree kinds.now }
 {
@@ -201,7 +202,7 @@ fn choice(alloc: Global, at: u32, c: Piece, a: Piece, b: Piece) -> Res<Piece, Te
     Ok(free_where(first, made))
 }
 
-/// A choice among free values is free.
+/// A choice by the type of the first of its values that has one: what is made of it, and a free part where no value has one.
 pub fn free_where(first: Option<ColType>, made: Piece) -> Piece
     ensures { result ≡ freed (is_free first) made }
 {
@@ -256,7 +257,8 @@ fn text_part(
     call_of(at, function, args, &kinds)
 }
 
-/// A function of three values.
+/// A function of three values: its call with its type, or the fault of its types at the call; or want of memory. An `if_else`
+/// between free values is free.
 pub fn of_three(
     alloc: Global,
     at: u32,
@@ -338,7 +340,8 @@ fn agreement_as(alloc: Global, wanted: ColType, pieces: &[Piece]) -> Mem<ColType
 }
 
 #[tactic(auto, unfolding(crate::specs::Calls::first_there))]
-/// `coalesce(a, ..)`
+/// `coalesce(a, ..)`: its call with its type, and a free part where all are free; or the fault of its types at the call; or
+/// want of memory.
 pub fn first_there(alloc: Global, at: u32, pieces: Seq<Piece>) -> Res<Piece, TermFault>
     ensures { Gives result (stands_at at (first_of_all pieces)) }
 {
@@ -347,7 +350,7 @@ pub fn first_there(alloc: Global, at: u32, pieces: Seq<Piece>) -> Res<Piece, Ter
     choice_over(alloc, at, ExprFn::Coalesce(kind), first, pieces)
 }
 
-/// `paste0(a, ..)`
+/// `paste0(a, ..)`: its call with its type, or the fault of its types at the call; or want of memory.
 pub fn pasted(alloc: Global, at: u32, pieces: Seq<Piece>) -> Res<Piece, TermFault>
     ensures { Gives result (stands_at at (over_all ExprFn.Paste0 ColType.Lgl pieces)) }
 {
@@ -365,7 +368,7 @@ fn beside_date(dated: bool, part: Part) -> Res<Piece, TermFault>
     }
     match piece.day() {
         Some(Some(day)) => Ok(Piece::Literal(Value::Day(day), ColType::Date)),
-        Some(None) => Err(fault(TermFaultKind::WrongType, at)),
+        Some(None) => Err(fault_at(TermFaultKind::WrongType, at)),
         None => Ok(piece),
     }
 }
@@ -387,7 +390,8 @@ fn comparison(alloc: Global, at: u32, function: ExprFn, a: Part, b: Part) -> Res
 }
 
 #[tactic(auto, unfolding(crate::specs::Calls::operated))]
-/// An operator between two parts.
+/// An operator between two parts: its call with its type, or the fault of its types at the operator; or want of memory. In a
+/// comparison a text as it is written beside a date is read as a date, and a text that is none is a wrong type at its place.
 pub fn operated(alloc: Global, at: u32, function: ExprFn, a: Part, b: Part) -> Res<Piece, TermFault>
     ensures { Gives result (operator_made at function a b) }
 {
@@ -399,7 +403,8 @@ pub fn operated(alloc: Global, at: u32, function: ExprFn, a: Part, b: Part) -> R
 }
 
 #[tactic(auto, unfolding(crate::specs::Calls::between_parts))]
-/// `between`, of three parts.
+/// `between`, of three parts: its call with its type, or the fault of its types at the call; or want of memory. Where one is
+/// a date the texts as they are written are read as dates, and one that is none is a wrong type at its place.
 pub fn between_parts(alloc: Global, at: u32, x: Part, a: Part, b: Part) -> Res<Piece, TermFault>
     ensures { Gives result (between_made at x a b) }
 {
@@ -451,12 +456,14 @@ fn among_items(alloc: Global, at: u32, x: Part, items: Seq<Part>) -> Res<Piece, 
     if are_literals(items.as_slice()) {
         among_literals(alloc, at, x, items)
     } else {
-        Err(fault(TermFaultKind::WrongArguments, at))
+        Err(fault_at(TermFaultKind::WrongArguments, at))
     }
 }
 
 #[tactic(auto, unfolding(crate::specs::Calls::membership))]
-/// `x %in% c(..)`
+/// `x %in% c(..)`: its call with its type, or the fault of its types at the call; or want of memory. Where there is no list,
+/// or a part of it is no literal, the arguments are wrong; beside a date x the texts of the list are read as dates, and one
+/// that is none is a wrong type at its place.
 pub fn membership(
     alloc: Global,
     at: u32,
@@ -467,6 +474,6 @@ pub fn membership(
 {
     match items {
         Some(items) => among_items(alloc, at, x, items),
-        None => Err(fault(TermFaultKind::WrongArguments, at)),
+        None => Err(fault_at(TermFaultKind::WrongArguments, at)),
     }
 }

@@ -1,5 +1,5 @@
 ghost use Rattle.std.specs.Prelude.{◌≡◌};
-ghost use Rattle.term_types.specs.Names.{function_name, row_function as function_named, other_name, other_function as other_named, other_callee, callee};
+ghost use Rattle.term_calls.specs.Names.{function_name, row_function as function_named, other_name, other_function as other_named, other_callee, callee};
 
 use na_expr::ExprFn;
 use scalar_value::ColType;

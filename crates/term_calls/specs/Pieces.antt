@@ -6,8 +6,8 @@ use Rattle.scalar_value.specs.declared.value.ColType.{ColType}
 use Rattle.scalar_value.specs.declared.value.ColType.TheVariants.{Int, Dec, Chr, Date, Lgl}
 use Rattle.na_expr.specs.declared.expr.Expr.{Expr}
 use Rattle.na_expr.specs.declared.expr.Expr.TheVariants as expr
-use Rattle.term_types.specs.declared.piece.Piece.{Piece}
-use Rattle.term_types.specs.declared.piece.Piece.TheVariants.{Na, Free, Number, Literal, Typed}
+use Rattle.term_calls.specs.declared.piece.Piece.{Piece}
+use Rattle.term_calls.specs.declared.piece.Piece.TheVariants.{Na, Free, Number, Literal, Typed}
 
 -- the type of a part, and none of one that is free
 abbrev pub kind_of : Piece → Option ColType

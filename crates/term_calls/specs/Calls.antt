@@ -13,12 +13,12 @@ use Rattle.na_expr.specs.declared.expr.TypeFault.{TypeFault}
 use Rattle.na_expr.specs.declared.expr.TypeFault.TheVariants as type_fault
 use Rattle.na_expr.specs.Evaluation.{is_comparison, is_text_test}
 use Rattle.na_expr.specs.Types.{takes, agreed, is_kind}
-use Rattle.term_types.specs.declared.fault.TermFault.{TermFault}
-use Rattle.term_types.specs.declared.fault.TermFaultKind.TheVariants.{WrongArguments, WrongType}
-use Rattle.term_types.specs.declared.piece.Piece.{Piece}
-use Rattle.term_types.specs.declared.piece.Piece.TheVariants.{Free, Literal, Typed}
-use Rattle.term_types.specs.Faults.{and_then, all_of, fault, stands_at}
-use Rattle.term_types.specs.Pieces.{kind_of, type_as, expr_as, is_literal, text_of, first_kind, needed, needed_by, is_free, are_free}
+use Rattle.term_calls.specs.declared.fault.TermFault.{TermFault}
+use Rattle.term_calls.specs.declared.fault.TermFaultKind.TheVariants.{WrongArguments, WrongType}
+use Rattle.term_calls.specs.declared.piece.Piece.{Piece}
+use Rattle.term_calls.specs.declared.piece.Piece.TheVariants.{Free, Literal, Typed}
+use Rattle.term_calls.specs.Faults.{and_then, all_of, fault, stands_at}
+use Rattle.term_calls.specs.Pieces.{kind_of, type_as, expr_as, is_literal, text_of, first_kind, needed, needed_by, is_free, are_free}
 
 -- ---- the expression that is made
 
