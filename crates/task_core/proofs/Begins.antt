@@ -1,7 +1,6 @@
 -- What is stored as a run begins stands for the opening state.
 use Rattle.std.proofs.Common.{◌≡◌, ℕ, zero, suc, ◌+◌, ◌-◌, ◌≤◌, Bool, true, false, cond, List, [], ◌∷◌, length, map, Option, None, slice_index_or, refl, sym, ap, subst, ◌∙◌, arith}
 use Rattle.scalar_value.specs.declared.value.Value.{Value}
-use Rattle.scalar_value.specs.declared.value.ColType.{ColType}
 use Rattle.row_table.specs.declared.field.Field.{Field}
 use Rattle.backpressure.specs.Edges.{quiet}
 use Rattle.std.specs.VecDeque.{deque_capacity}
