@@ -104,7 +104,12 @@ fn draw(drawn: &mut Text, kind: &NodeKind, schema: &Schema) -> Mem<()> {
         NodeKind::Source(_) => "source ",
         NodeKind::Filter(_) => "filter ",
         NodeKind::Project(_) => "project ",
+        NodeKind::Longer(_) => "longer ",
+        NodeKind::Aggregate(_) => "aggregate ",
         NodeKind::HashJoin(_) => "hashjoin ",
+        NodeKind::OrderBy(_) => "order_by ",
+        NodeKind::Fetch(_, _) => "fetch ",
+        NodeKind::Window(_) => "window ",
         NodeKind::Sink => "sink ",
     })?;
     for field in schema.as_slice() {

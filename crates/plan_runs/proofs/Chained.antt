@@ -12,7 +12,7 @@ use Rattle.plan_machine.specs.Lists.{at_or}
 use Rattle.plan_machine.specs.Meaning.{SameRows, meaning}
 use Rattle.plan_nodes.specs.declared.node.Node.{Node}
 use Rattle.plan_nodes.specs.declared.node.NodeKind.{NodeKind}
-use Rattle.plan_nodes.specs.declared.node.NodeKind.TheVariants.{Source, Filter, Project, HashJoin, Sink}
+use Rattle.plan_nodes.specs.declared.node.NodeKind.TheVariants.{Source, Filter, Project, Longer, Aggregate, HashJoin, OrderBy, Fetch, Window, Sink}
 use Rattle.plan_nodes.specs.Kinds.{is_source}
 use Rattle.column_batch.specs.Batches.{kinds_of}
 use Rattle.plan_nodes.specs.Operators.{Each}
@@ -31,7 +31,12 @@ no_source_step : (k : NodeKind) → is_streaming k ≡ true → is_source k ≡ 
 no_source_step (Source name) e = cc
 no_source_step (Filter x) e = refl
 no_source_step (Project xs) e = refl
+no_source_step (Longer s) e = refl
+no_source_step (Aggregate s) e = refl
 no_source_step (HashJoin j) e = refl
+no_source_step (OrderBy ks) e = refl
+no_source_step (Fetch offset count) e = refl
+no_source_step (Window s) e = refl
 no_source_step Sink e = refl
 
 no_source_behind : (mark : Mark) (k n : ℕ) (schema : List Field) (steps : List Step) → AreSteps schema steps → numbers_of true n (nodes_behind mark k schema steps) ≡ []

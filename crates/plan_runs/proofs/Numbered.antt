@@ -8,7 +8,7 @@ use Rattle.std.specs.declared.sync.Arc.{Arc}
 use Rattle.std.specs.Arc.{arc_value}
 use Rattle.plan_machine.specs.Lists.{at_or}
 use Rattle.plan_nodes.specs.declared.node.Node.{Node}
-use Rattle.plan_nodes.specs.Kinds.{is_source}
+use Rattle.plan_nodes.specs.Kinds.{is_source, is_built}
 use Rattle.plan_nodes.specs.Operators.{OpMeaning, Each}
 use Rattle.plan_nodes.specs.Plans.{IsPlan, node_at, no_node, meaning_at, user_of}
 use Rattle.plan_store.specs.Beginning.{numbers_of}
@@ -61,6 +61,10 @@ module _ {O : Type 0} (meaning : O → OpMeaning) (nodes : List Node) (batch : �
 -- the node of a number
 pub node_is : (nodes : List Node) (e k : ℕ) (v : Node) → suc k ≡ e → k < length nodes → v ≡ slice_index_or nodes k v → node_at nodes e ≡ v
 node_is nodes e k v at l is = ap (node_at nodes) (sym at) ∙ (at_slice no_node v k nodes l ∙ sym is)
+
+-- a plan's nodes are of kinds that are built
+pub built_at : (nodes : List Node) (k : ℕ) → IsPlan nodes → k < length nodes → is_built (node_at nodes (suc k)).kind ≡ true
+built_at nodes k plan l = (plan.placed (suc k) (omega arith) (omega arith)).built
 
 pub on_ok : {T E : Type 0} (r : Result T E) (A B : Type 0) → (A → B) → OnOk r A → OnOk r B
 on_ok (Ok x) A B f h = f h

@@ -1,7 +1,6 @@
 //! The operators of a plan's nodes.
 ghost use Rattle.std.specs.Prelude.{◌≡◌, ◌<◌, ◌≤◌, true, false, All, IfOk, OnOk, length, map, suc};
 ghost use Rattle.std.specs.Arc.{arc_value};
-ghost use Rattle.column_batch.specs.Batches.{kinds_of};
 ghost use Rattle.plan_nodes.specs.Kinds.{is_source};
 ghost use Rattle.plan_nodes.specs.Plans.{IsPlan, input_schemas, node_at, meaning_at};
 ghost use Rattle.plan_store.specs.Beginning.{AreOperators};

@@ -1,7 +1,6 @@
 use Rattle.std.proofs.Common.{◌≡◌, map, take}
-use Rattle.column_batch.specs.Batches.{kinds_of}
 use Rattle.plan_nodes.specs.Plans.{node_at}
 use Rattle.plan_runs.proofs.operators.inputs_of.Given as goal
 
 abbrev pub invariant-loop-input : goal.invariant-loop-input
-invariant-loop-input l = map (λ s. kinds_of s.now) l.schemas.items ≡ map (λ e. kinds_of (node_at l.nodes e).schema) (take l.input-index l.input-items)
+invariant-loop-input l = map (λ s. s.now) l.schemas.items ≡ map (λ e. (node_at l.nodes e).schema) (take l.input-index l.input-items)
