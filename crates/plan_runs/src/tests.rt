@@ -1,9 +1,10 @@
 //! A run of three rows through a filter, one row in a batch: its rows, its history and its peaks, worked out by hand.
-ghost use Rattle.std.specs.Prelude.{◌≡◌, [], ◌∷◌, IfOk};
+ghost use Rattle.std.specs.Prelude.{◌≡◌, [], ◌∷◌, IfOk, IfSome};
+ghost use Rattle.chain_plans.specs.Chains.{IsStep};
 
 use crate::{ChainRun, run_chain};
 use chain_plans::Step;
-use na_expr::{Expr, ExprFn};
+use na_expr::{Expr, ExprFn, type_of};
 use plan_machine::{Entry, Job};
 use plan_nodes::NodeKind;
 use row_table::{Field, Mark, Row, Schema, Table};
@@ -49,21 +50,35 @@ fn table_of(alloc: Global) -> Mem<Table>
     })
 }
 
-fn condition_of(alloc: Global) -> Mem<Expr>
-    ensures { IfOk result (λ e. e ≡ Expr.Call ExprFn.Gt (Expr.Col 0 ∷ Expr.Lit (Value.Int 7) ColType.Int ∷ [])) }
-{
+fn condition_of(alloc: Global) -> Mem<Expr> {
     let mut args = Seq::new(alloc);
     args.push(Expr::Col(0))?;
     args.push(Expr::Lit(Value::Int(7), ColType::Int))?;
     Ok(Expr::Call(ExprFn::Gt, args))
 }
 
+/// The step that keeps the rows on which x is over 7, behind these columns.
+fn step_of(alloc: Global, schema: &Schema) -> Mem<Option<Step>>
+    ensures { IfOk result (λ made. IfSome made (λ step. IsStep schema.now step)) }
+{
+    let condition = condition_of(alloc)?;
+    match type_of(&condition, schema) {
+        Ok(ColType::Lgl) => Ok(Some(Step {
+            kind: NodeKind::Filter(condition),
+            schema: schema.copy()?,
+        })),
+        _ => Ok(None),
+    }
+}
+
 /// The run of `v |> filter(x > 7)` where an edge is paused by its second batch.
-fn run_of<R: Threads + Sync>(rt: &R, alloc: Global) -> Mem<ChainRun> {
-    let kind = NodeKind::Filter(condition_of(alloc)?);
+fn run_of<R: Threads + Sync>(rt: &R, alloc: Global) -> Mem<Option<ChainRun>> {
     let schema = schema_of(alloc)?;
+    let Some(step) = step_of(alloc, &schema)? else {
+        return Ok(None);
+    };
     let mut steps = Seq::new(alloc);
-    steps.push(Step { kind, schema })?;
+    steps.push(step)?;
     let setting = Setting {
         batch: 1,
         workers: 1,
@@ -72,7 +87,7 @@ fn run_of<R: Threads + Sync>(rt: &R, alloc: Global) -> Mem<ChainRun> {
     };
     let name = Text::of(alloc, "v")?;
     let table = Arc::new(alloc, table_of(alloc)?)?;
-    run_chain(rt, alloc, name, table, steps, setting)
+    Ok(Some(run_chain(rt, alloc, name, table, steps, setting)?))
 }
 
 fn claim(node: u32, job: Job, batch: u64) -> Entry {
@@ -118,10 +133,14 @@ fn a_filter_runs_batch_by_batch(rt: HostRuntime) -> Result<(), Fail> {
         DELIVER,
         Entry::Finish { node: 3 },
     ];
-    let run = run_of(&rt, alloc)?;
-    assert_eq!(rt; run.finished.history.as_slice(), history.as_slice());
-    assert_eq!(rt; run.finished.peaks.as_slice(), [2, 2].as_slice());
-    assert_eq!(rt; run.finished.rows.len(), 2);
-    assert_eq!(rt; run.plan.nodes.len(), 3);
+    match run_of(&rt, alloc)? {
+        Some(run) => {
+            assert_eq!(rt; run.finished.history.as_slice(), history.as_slice());
+            assert_eq!(rt; run.finished.peaks.as_slice(), [2, 2].as_slice());
+            assert_eq!(rt; run.finished.rows.len(), 2);
+            assert_eq!(rt; run.plan.nodes.len(), 3);
+        }
+        None => assert!(rt; false, "no condition"),
+    }
     Ok(())
 }
