@@ -26,10 +26,7 @@ fn piece(alloc: Global, word: &str) -> Mem<Piece> {
         "chr" => Ok(Piece::Typed(Expr::Col(1), ColType::Chr)),
         "date" => Ok(Piece::Typed(Expr::Col(2), ColType::Date)),
         "lgl" => Ok(Piece::Typed(Expr::Col(3), ColType::Lgl)),
-        text => Ok(Piece::Literal(
-            Value::Chr(Text::of(alloc, text)?),
-            ColType::Chr,
-        )),
+        text => Ok(Piece::Literal(Value::Chr(Text::of(alloc, text)?), ColType::Chr)),
     }
 }
 
