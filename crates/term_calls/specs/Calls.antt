@@ -1,6 +1,6 @@
 -- Calls of operators and functions over parts: what a free part takes, texts that are dates, and the expression that is made.
 use Rattle.std.specs.Prelude.{ℕ, ℤ, Bool, true, false, ◌&&◌, ◌||◌, if◌then◌else◌, Option, Some, None, unwrap_or, Result, Ok, Err, List, [], ◌∷◌, ◌++◌, map}
-use Rattle.std.specs.List.{list_all, list_any, flat_map}
+use Rattle.std.specs.List.{list_all, flat_map}
 use Rattle.scalar_value.specs.declared.value.Value.TheVariants as cell
 use Rattle.scalar_value.specs.declared.value.ColType.{ColType}
 use Rattle.scalar_value.specs.declared.value.ColType.TheVariants.{Int, Chr, Date, Lgl}
