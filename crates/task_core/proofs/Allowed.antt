@@ -16,6 +16,7 @@ use Rattle.plan_machine.specs.Enabled.{Enabled, CanDo, CanPause}
 use Rattle.plan_machine.specs.InFlight.{phase_of}
 use Rattle.plan_machine.specs.History.{state_after}
 use Rattle.plan_nodes.specs.Operators.{OpMeaning}
+use Rattle.plan_nodes.specs.Plans.{IsPlan}
 use Rattle.task_work.specs.declared.work.Share.{Share}
 use Rattle.plan_store.specs.declared.queue.Queue.{Queue}
 use Rattle.plan_store.specs.declared.stage.Stage.{Stage}
@@ -102,15 +103,15 @@ module _ {O S L : Type 0}
         job (sym st.is_phase ∙ at ∙ is) in
         (λ t. x.0 (does.0 t), λ c. does.1 (x.1 c))
 
-pub claim_is : (g : Given) (s : State (List Value)) (w n : ℕ) (job : Job) (k : ℕ) (r : Bool)
+pub claim_is : (g : Given) → IsPlan g.nodes → (s : State (List Value)) (w n : ℕ) (job : Job) (k : ℕ) (r : Bool)
     → IsWorker (plan_of g) w → IsNode (plan_of g) n → s.failed ≡ false → s.tasks w ≡ None → ((e : ℕ) → CanPause (plan_of g) s e → ⊥)
     → (IsTrue r ↔ CanDo (plan_of g) s n job k)
     → IsTrue r ↔ Enabled (plan_of g) s (Claim w n job k)
-claim_is g s w n job k r worker node sound free calm does = (
-  λ t. (record { node = node; worker = worker; free = free; sound = sound; no_stop = no_stop g s; no_pause = calm }, does.0 t),
+claim_is g planned s w n job k r worker node sound free calm does = (
+  λ t. (record { node = node; worker = worker; free = free; sound = sound; no_stop = no_stop g planned s; no_pause = calm }, does.0 t),
   λ c. does.1 c.1,
 )
 
 -- nothing is ever stopped
-pub stop_is : (g : Given) (s : State (List Value)) (n : ℕ) → IsTrue false ↔ Enabled (plan_of g) s (Stop n)
-stop_is g s n = (λ t. cc, λ can. absurd (no_stop g s n can.1))
+pub stop_is : (g : Given) → IsPlan g.nodes → (s : State (List Value)) (n : ℕ) → IsTrue false ↔ Enabled (plan_of g) s (Stop n)
+stop_is g planned s n = (λ t. cc, λ can. absurd (no_stop g planned s n can.1))

@@ -1,23 +1,22 @@
 -- What is read of a run that has ended.
-use Rattle.std.proofs.Common.{◌≡◌, ℕ, zero, suc, ◌+◌, ◌-◌, ◌*◌, ◌/◌, ◌<◌, ◌≤◌, Bool, true, false, nat_eq, List, [], ◌∷◌, ◌++◌, length, take, drop, map, Vec, Option, Some, None, refl, sym, ap, subst, ◌∙◌, arith, inl, inr, slice_index_or}
+use Rattle.std.proofs.Common.{◌≡◌, ℕ, zero, suc, ◌+◌, ◌-◌, ◌*◌, ◌/◌, ◌≤◌, Bool, true, false, nat_eq, List, [], ◌∷◌, ◌++◌, length, take, drop, map, Vec, Option, Some, None, refl, sym, ap, subst, ◌∙◌, arith, inl, inr, slice_index_or}
 use Rattle.std.proofs.Math.Seq.{take-add, take-suc}
 use Rattle.std.proofs.lemmas.List.{take_all, map-append, length-map}
 use Rattle.std.proofs.lemmas.Bool.Decides.{eqb_tells}
 use Rattle.scalar_value.specs.declared.value.Value.{Value}
 use Rattle.scalar_value.specs.declared.value.ColType.{ColType}
-use Rattle.plan_machine.specs.declared.entry.Phase.{Phase}
+use Rattle.row_table.specs.declared.field.Field.{Field}
 use Rattle.plan_machine.specs.declared.entry.Phase.TheVariants.{Done}
 use Rattle.plan_machine.specs.declared.entry.Entry.{Entry}
 use Rattle.plan_machine.specs.Batch.{Batch}
 use Rattle.plan_machine.specs.Phases.{part_count_of}
-use Rattle.plan_machine.specs.Plan.{Plan as MachinePlan, IsWorker}
-use Rattle.plan_machine.specs.State.{State, Task, opening}
+use Rattle.plan_machine.specs.State.{Task, opening}
 use Rattle.plan_machine.specs.History.{state_after, peak, IsEnded}
 use Rattle.plan_nodes.specs.declared.node.NodeKind.{NodeKind}
-use Rattle.plan_nodes.specs.declared.node.NodeKind.TheVariants.{Source, Filter, Project, HashJoin, Sink}
+use Rattle.plan_nodes.specs.declared.node.NodeKind.TheVariants.{Source, Filter, Project, Longer, Aggregate, HashJoin, OrderBy, Fetch, Window, Sink}
 use Rattle.plan_nodes.specs.Operators.{OpMeaning, Ends, end_rows, size_of}
 use Rattle.plan_nodes.specs.Kinds.{is_sink, sink_meaning, kind_meaning}
-use Rattle.plan_nodes.specs.Plans.{IsPlan, node_at, input_kinds, meaning_at}
+use Rattle.plan_nodes.specs.Plans.{IsPlan, node_at, input_schemas}
 use Rattle.task_work.specs.Sites.{Site}
 use Rattle.task_work.specs.declared.work.Part.{Part}
 use Rattle.task_work.specs.declared.work.Share.{Share}
@@ -28,7 +27,7 @@ use Rattle.plan_store.specs.declared.stage.Stage.{Stage}
 use Rattle.plan_store.specs.declared.stage.NodeInfo.{NodeInfo}
 use Rattle.plan_store.specs.declared.stage.Flight.{Flight}
 use Rattle.plan_store.specs.Told.{Given, plan_of, site_of}
-use Rattle.task_core.specs.Stored.{Held, Stands, RowIs, SlotIs, PartStands, is_live, AllAway, Away, QueueIs, goes_on}
+use Rattle.task_core.specs.Stored.{Held, Stands, RowIs, SlotIs, PartStands, Away, QueueIs, goes_on}
 use Rattle.std.specs.Arc.{arc_value}
 use Rattle.std.specs.declared.alloc.Global.{Global}
 use Rattle.plan_machine.specs.Meaning.{SameRows, meaning as meaning_of}
@@ -52,16 +51,21 @@ parts_all b rows l = take_all (part_count_of (length rows) b * b) rows (covered 
 
 -- ---- the sink
 
-sink_kind : (k : NodeKind) (inputs : List (List ColType)) (batch : ℕ) → is_sink k ≡ true → kind_meaning k inputs batch ≡ sink_meaning batch
+sink_kind : (k : NodeKind) (inputs : List (List Field)) (batch : ℕ) → is_sink k ≡ true → kind_meaning k inputs batch ≡ sink_meaning batch
 sink_kind (Source name) inputs batch e = cc
 sink_kind (Filter x) inputs batch e = cc
 sink_kind (Project xs) inputs batch e = cc
+sink_kind (Longer s) inputs batch e = cc
+sink_kind (Aggregate s) inputs batch e = cc
 sink_kind (HashJoin j) inputs batch e = cc
+sink_kind (OrderBy ks) inputs batch e = cc
+sink_kind (Fetch offset count) inputs batch e = cc
+sink_kind (Window s) inputs batch e = cc
 sink_kind Sink inputs batch e = refl
 
 pub sink_site : (g : Given) → IsPlan g.nodes → (site_of g (plan_of g).sink).meaning ≡ sink_meaning g.pace.batch
 unfolding site_of
-sink_site g p = sink_kind (node_at g.nodes (length g.nodes)).kind (input_kinds g.nodes (node_at g.nodes (length g.nodes))) g.pace.batch p.last
+sink_site g p = sink_kind (node_at g.nodes (length g.nodes)).kind (input_schemas g.nodes (node_at g.nodes (length g.nodes))) g.pace.batch p.last
 
 first_of_some : {A : Type 0} (xs : List A) (d e : A) → 1 ≤ length xs → slice_index_or xs 0 d ≡ slice_index_or xs 0 e
 first_of_some [] d e some = absurd (omega arith)

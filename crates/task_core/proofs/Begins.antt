@@ -1,7 +1,7 @@
 -- What is stored as a run begins stands for the opening state.
 use Rattle.std.proofs.Common.{◌≡◌, ℕ, zero, suc, ◌+◌, ◌-◌, ◌≤◌, Bool, true, false, cond, List, [], ◌∷◌, length, map, Option, None, slice_index_or, refl, sym, ap, subst, ◌∙◌, arith}
 use Rattle.scalar_value.specs.declared.value.Value.{Value}
-use Rattle.scalar_value.specs.declared.value.ColType.{ColType}
+use Rattle.row_table.specs.declared.field.Field.{Field}
 use Rattle.backpressure.specs.Edges.{quiet}
 use Rattle.std.specs.VecDeque.{deque_capacity}
 use Rattle.plan_machine.specs.declared.entry.Phase.TheVariants.{Emitting, Folding, Streaming, Tailing}
@@ -13,9 +13,9 @@ use Rattle.plan_machine.specs.State.{Task, tasks_at, on_node, opening}
 use Rattle.plan_machine.proofs.Weigh.{gather-nil}
 use Rattle.plan_nodes.specs.declared.node.Node.{Node}
 use Rattle.plan_nodes.specs.declared.node.NodeKind.{NodeKind}
-use Rattle.plan_nodes.specs.declared.node.NodeKind.TheVariants.{Source, Filter, Project, HashJoin, Sink}
+use Rattle.plan_nodes.specs.declared.node.NodeKind.TheVariants.{Source, Filter, Project, Longer, Aggregate, HashJoin, OrderBy, Fetch, Window, Sink}
 use Rattle.plan_nodes.specs.Kinds.{kind_meaning, is_source}
-use Rattle.plan_nodes.specs.Plans.{node_at, machine_node_at, meaning_at, input_kinds, tables_of}
+use Rattle.plan_nodes.specs.Plans.{node_at, machine_node_at, meaning_at, input_schemas, tables_of}
 use Rattle.task_work.specs.declared.work.Waiting.{Waiting}
 use Rattle.plan_store.specs.declared.queue.Queue.{Queue}
 use Rattle.plan_store.specs.declared.stage.Stage.{Stage}
@@ -32,11 +32,16 @@ at_is d zero (x ∷ xs) = refl
 at_is d (suc k) (x ∷ xs) = at_is d k xs
 
 -- the shape hangs on the kind alone
-pub shape_same : (kind : NodeKind) (inputs : List (List ColType)) (batch : ℕ) → (kind_meaning kind [] 1).shape ≡ (kind_meaning kind inputs batch).shape
+pub shape_same : (kind : NodeKind) (inputs : List (List Field)) (batch : ℕ) → (kind_meaning kind [] 1).shape ≡ (kind_meaning kind inputs batch).shape
 shape_same (Source name) inputs batch = refl
-shape_same (Filter e) inputs batch = refl
-shape_same (Project es) inputs batch = refl
+shape_same (Filter x) inputs batch = refl
+shape_same (Project xs) inputs batch = refl
+shape_same (Longer s) inputs batch = refl
+shape_same (Aggregate s) inputs batch = refl
 shape_same (HashJoin j) inputs batch = refl
+shape_same (OrderBy ks) inputs batch = refl
+shape_same (Fetch offset count) inputs batch = refl
+shape_same (Window s) inputs batch = refl
 shape_same Sink inputs batch = refl
 
 -- a node that begins Emitting is a source, and none begins Tailing
@@ -65,7 +70,7 @@ module _ (g : Given) where
   v_at k = node_at g.nodes (suc k)
 
   shape_at : (k : ℕ) → (kind_meaning (v_at k).kind [] 1).shape ≡ (meaning_at g.nodes g.pace.batch (suc k)).shape
-  shape_at k = shape_same (v_at k).kind (input_kinds g.nodes (v_at k)) g.pace.batch
+  shape_at k = shape_same (v_at k).kind (input_schemas g.nodes (v_at k)) g.pace.batch
 
   pub info_opens : (k : ℕ) (i : NodeInfo) → i ≡ info_of g.nodes (v_at k) (suc k) → InfoIs (plan_of g) (site_of g (suc k)) (suc k) i
   unfolding machine_node_at site_of

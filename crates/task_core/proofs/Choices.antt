@@ -15,11 +15,9 @@ use Rattle.plan_machine.specs.History.{state_after}
 use Rattle.plan_machine.proofs.Weigh.{same_or}
 use Rattle.plan_machine.proofs.Turn.{folds_input, streams_input, Started}
 use Rattle.plan_machine.proofs.Steps.{run, good-opening}
-use Rattle.plan_nodes.specs.declared.node.NodeKind.{NodeKind}
-use Rattle.plan_nodes.specs.declared.node.NodeKind.TheVariants.{Source, Filter, Project, HashJoin, Sink}
 use Rattle.plan_nodes.specs.Operators.{OpMeaning}
-use Rattle.plan_nodes.specs.Kinds.{kind_meaning}
-use Rattle.plan_nodes.specs.Plans.{node_at, input_kinds, machine_node_at}
+use Rattle.plan_nodes.specs.Plans.{IsPlan, node_at, input_schemas, machine_node_at}
+use Rattle.plan_nodes.proofs.EachKind.{kind-wants}
 use Rattle.task_work.specs.declared.work.Share.{Share}
 use Rattle.plan_store.specs.declared.queue.Queue.{Queue}
 use Rattle.plan_store.specs.declared.stage.Stage.{Stage}
@@ -31,18 +29,13 @@ use Rattle.task_core.specs.Choosing.{job_by, input_by, number_by, NoJob, IsFirst
 use Rattle.task_core.proofs.Held.{held_at}
 use Rattle.task_core.proofs.Choosing.{Offers, JobIs, job_is}
 
--- ---- no node of a plan is a fetch, so that nothing is ever stopped
+-- ---- a fetch is not built, so that nothing is ever stopped
 
-wants_nothing : (k : NodeKind) (inputs : List (List ColType)) (batch : ℕ) → (kind_meaning k inputs batch).wanted ≡ None
-wants_nothing (Source name) inputs batch = refl
-wants_nothing (Filter e) inputs batch = refl
-wants_nothing (Project es) inputs batch = refl
-wants_nothing (HashJoin j) inputs batch = refl
-wants_nothing Sink inputs batch = refl
-
-pub no_stop : (g : Given) (s : State (List Value)) (m : ℕ) → CanStop (plan_of g) s m → ⊥
+pub no_stop : (g : Given) → IsPlan g.nodes → (s : State (List Value)) (m : ℕ) → CanStop (plan_of g) s m → ⊥
 unfolding machine_node_at
-no_stop g s m can = let e = sym can.is_fetch ∙ wants_nothing (node_at g.nodes m).kind (input_kinds g.nodes (node_at g.nodes m)) g.pace.batch in cc
+no_stop g planned s m can =
+    let e = sym can.is_fetch ∙ kind-wants (node_at g.nodes m).kind (input_schemas g.nodes (node_at g.nodes m)) g.pace.batch (planned.placed m can.node.0 can.node.1).built in
+    cc
 
 -- ---- the first at the lowest node is what a worker prefers
 
@@ -55,13 +48,13 @@ module _ {R : Type 0} (P : MachinePlan R) (s : State R) where
       low (inl z) = absurd (f.lowest n' node (omega arith) job' k' can)
       low (inr nz) = omega arith
 
-pub choice_is : (g : Given) (s : State (List Value)) (w : ℕ) → IsWorker (plan_of g) w → s.failed ≡ false → s.tasks w ≡ None → ((e : ℕ) → CanPause (plan_of g) s e → ⊥)
+pub choice_is : (g : Given) → IsPlan g.nodes → (s : State (List Value)) (w : ℕ) → IsWorker (plan_of g) w → s.failed ≡ false → s.tasks w ≡ None → ((e : ℕ) → CanPause (plan_of g) s e → ⊥)
     → (r : Option Flight)
     → IfSome r (λ f. IsFirstWork (plan_of g) s f.node f.job f.number)
     → IfSome r (λ f. IsClaimChoice (plan_of g) s w f.node f.job f.number)
-choice_is g s w worker sound free calm None h = h
-choice_is g s w worker sound free calm (Some f) h = (
-  (record { node = h.node; worker = worker; free = free; sound = sound; no_stop = no_stop g s; no_pause = calm }, h.first.0),
+choice_is g planned s w worker sound free calm None h = h
+choice_is g planned s w worker sound free calm (Some f) h = (
+  (record { node = h.node; worker = worker; free = free; sound = sound; no_stop = no_stop g planned s; no_pause = calm }, h.first.0),
   (λ n job k can. preferred (plan_of g) s f.node f.job f.number h n job k can.0.node can.1 (same_or f.node n)),
 )
 

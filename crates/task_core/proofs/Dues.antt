@@ -14,6 +14,7 @@ use Rattle.plan_machine.specs.Enabled.{Enabled, MayFinish}
 use Rattle.plan_machine.specs.History.{state_after}
 use Rattle.plan_machine.specs.Driver.{NoUpkeep, NoneOf}
 use Rattle.plan_nodes.specs.Operators.{OpMeaning}
+use Rattle.plan_nodes.specs.Plans.{IsPlan}
 use Rattle.task_work.specs.declared.work.Share.{Share}
 use Rattle.plan_store.specs.declared.queue.Queue.{Queue}
 use Rattle.plan_store.specs.declared.stage.Stage.{Stage}
@@ -82,14 +83,14 @@ module _ {O S L : Type 0}
         (λ t. let m = f.0 (sym same ∙ t) in (sound, node, m.0, m.1), λ e. same ∙ f.1 (e.2, e.3))
 
 -- what is due, where nothing is ever stopped
-pub never_stop : (g : Given) (s : State (List Value)) → NoneOf (plan_of g) s Stop
-never_stop g s k can = no_stop g s k can.1
+pub never_stop : (g : Given) → IsPlan g.nodes → (s : State (List Value)) → NoneOf (plan_of g) s Stop
+never_stop g planned s k can = no_stop g planned s k can.1
 
-pub nothing_due : (g : Given) (s : State (List Value)) → NoneOf (plan_of g) s Pause → NoneOf (plan_of g) s Finish → NoneOf (plan_of g) s Resume → NoUpkeep (plan_of g) s
-nothing_due g s p f r (Claim w n job k) up can = absurd up
-nothing_due g s p f r (Deliver w) up can = absurd up
-nothing_due g s p f r (Pause e) up can = p e can
-nothing_due g s p f r (Resume e) up can = r e can
-nothing_due g s p f r (Finish n) up can = f n can
-nothing_due g s p f r (Stop n) up can = never_stop g s n can
-nothing_due g s p f r (Fail w) up can = absurd up
+pub nothing_due : (g : Given) → IsPlan g.nodes → (s : State (List Value)) → NoneOf (plan_of g) s Pause → NoneOf (plan_of g) s Finish → NoneOf (plan_of g) s Resume → NoUpkeep (plan_of g) s
+nothing_due g planned s p f r (Claim w n job k) up can = absurd up
+nothing_due g planned s p f r (Deliver w) up can = absurd up
+nothing_due g planned s p f r (Pause e) up can = p e can
+nothing_due g planned s p f r (Resume e) up can = r e can
+nothing_due g planned s p f r (Finish n) up can = f n can
+nothing_due g planned s p f r (Stop n) up can = never_stop g planned s n can
+nothing_due g planned s p f r (Fail w) up can = absurd up

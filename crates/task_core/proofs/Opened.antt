@@ -4,6 +4,7 @@ use Rattle.std.specs.Arc.{arc_value}
 use Rattle.std.specs.VecDeque.{deque_capacity}
 use Rattle.scalar_value.specs.declared.value.Value.{Value}
 use Rattle.scalar_value.specs.declared.value.ColType.{ColType}
+use Rattle.row_table.specs.declared.field.Field.{Field}
 use Rattle.row_table.specs.Tables.{TableValue}
 use Rattle.backpressure.specs.Edges.{quiet}
 use Rattle.column_batch.specs.Batches.{kinds_of}
@@ -18,9 +19,9 @@ use Rattle.plan_machine.specs.History.{replay, peak}
 use Rattle.plan_machine.specs.WellFormed.{Lawful, WellFormed}
 use Rattle.plan_nodes.specs.declared.node.Node.{Node}
 use Rattle.plan_nodes.specs.declared.node.NodeKind.{NodeKind}
-use Rattle.plan_nodes.specs.declared.node.NodeKind.TheVariants.{Source, Filter, Project, HashJoin, Sink}
+use Rattle.plan_nodes.specs.declared.node.NodeKind.TheVariants.{Source, Filter, Project, Longer, Aggregate, HashJoin, OrderBy, Fetch, Window, Sink}
 use Rattle.plan_nodes.specs.Kinds.{kind_meaning, is_source}
-use Rattle.plan_nodes.specs.Plans.{IsPlan, node_at, no_node, input_kinds, meaning_at, machine_node_at, tables_of}
+use Rattle.plan_nodes.specs.Plans.{IsPlan, node_at, no_node, input_schemas, input_kinds, meaning_at, machine_node_at, tables_of}
 use Rattle.plan_nodes.specs.Operators.{OpMeaning}
 use Rattle.task_work.specs.Sites.{Site}
 use Rattle.task_work.specs.declared.work.Part.{Part}
@@ -37,19 +38,29 @@ use Rattle.plan_store.specs.Shares.{IsTableShare, IsPartShare, IsFreshPart, RowO
 use Rattle.task_core.specs.Stored.{Stored, Stands, Bounding, SlotIs, RowIs, Away, QueueIs, goes_on}
 use Rattle.task_core.proofs.Begins.{at_is, info_opens, stage_opens, queue_opens, seat_opens, none_in_flight}
 
-fits_same : (kind : NodeKind) (inputs : List (List ColType)) (batch : ℕ) → (kind_meaning kind inputs 1).fits inputs ≡ (kind_meaning kind inputs batch).fits inputs
-fits_same (Source name) inputs batch = refl
-fits_same (Filter e) inputs batch = refl
-fits_same (Project es) inputs batch = refl
-fits_same (HashJoin j) inputs batch = refl
-fits_same Sink inputs batch = refl
+fits_same : (kind : NodeKind) (inputs : List (List Field)) (kinds : List (List ColType)) (batch : ℕ) → (kind_meaning kind inputs 1).fits kinds ≡ (kind_meaning kind inputs batch).fits kinds
+fits_same (Source name) inputs kinds batch = refl
+fits_same (Filter x) inputs kinds batch = refl
+fits_same (Project xs) inputs kinds batch = refl
+fits_same (Longer s) inputs kinds batch = refl
+fits_same (Aggregate s) inputs kinds batch = refl
+fits_same (HashJoin j) inputs kinds batch = refl
+fits_same (OrderBy ks) inputs kinds batch = refl
+fits_same (Fetch offset count) inputs kinds batch = refl
+fits_same (Window s) inputs kinds batch = refl
+fits_same Sink inputs kinds batch = refl
 
-columns_same : (kind : NodeKind) (inputs : List (List ColType)) (batch : ℕ) → (kind_meaning kind inputs 1).columns inputs ≡ (kind_meaning kind inputs batch).columns inputs
-columns_same (Source name) inputs batch = refl
-columns_same (Filter e) inputs batch = refl
-columns_same (Project es) inputs batch = refl
-columns_same (HashJoin j) inputs batch = refl
-columns_same Sink inputs batch = refl
+columns_same : (kind : NodeKind) (inputs : List (List Field)) (kinds : List (List ColType)) (batch : ℕ) → (kind_meaning kind inputs 1).columns kinds ≡ (kind_meaning kind inputs batch).columns kinds
+columns_same (Source name) inputs kinds batch = refl
+columns_same (Filter x) inputs kinds batch = refl
+columns_same (Project xs) inputs kinds batch = refl
+columns_same (Longer s) inputs kinds batch = refl
+columns_same (Aggregate s) inputs kinds batch = refl
+columns_same (HashJoin j) inputs kinds batch = refl
+columns_same (OrderBy ks) inputs kinds batch = refl
+columns_same (Fetch offset count) inputs kinds batch = refl
+columns_same (Window s) inputs kinds batch = refl
+columns_same Sink inputs kinds batch = refl
 
 first_other : (s : OpShape) → (first_phase_of false s ≡ Folding) ⊎ (first_phase_of false s ≡ Streaming)
 first_other s = by s.folds
@@ -134,11 +145,12 @@ module _ {O S L : Type 0}
           by k lt false e =
               let s = opens.other e in
               let kind = (node_at g.nodes n).kind in
-              let inputs = input_kinds g.nodes (node_at g.nodes n) in
+              let inputs = input_schemas g.nodes (node_at g.nodes n) in
+              let kinds = input_kinds g.nodes (node_at g.nodes n) in
               let here = planned.placed n low up in
               slot_other (site_of g n) (nat_eq n (plan_of g).sink) ((opening (plan_of g)).phase n) s.0 (Away (λ _. None) n (suc k)) (slice_index_or row k None) e
               (subst (λ b. (first_phase_of b (meaning_at g.nodes g.pace.batch n).shape ≡ Folding) ⊎ (first_phase_of b (meaning_at g.nodes g.pace.batch n).shape ≡ Streaming)) (sym e) (first_other (meaning_at g.nodes g.pace.batch n).shape))
-              s.1 (subst IsTrue (fits_same kind inputs g.pace.batch) here.fits) (here.columns e ∙ columns_same kind inputs g.pace.batch) (s.2 k lt)
+              s.1 (subst IsTrue (fits_same kind inputs kinds g.pace.batch) here.fits) (here.columns e ∙ columns_same kind inputs kinds g.pace.batch) (s.2 k lt)
 
       pub stored_opens : (most : ℕ → ℕ) (infos : List NodeInfo) (stages : List Stage) (queues : List Queue) (rows : List (List (Option (Share O S L)))) (seats : List (Option Flight))
           → IsPlan g.nodes

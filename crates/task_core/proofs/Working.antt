@@ -4,6 +4,7 @@ use Rattle.std.specs.declared.alloc.Global.{Global}
 use Rattle.std.specs.declared.sync.Arc.{Arc}
 use Rattle.scalar_value.specs.declared.value.Value.{Value}
 use Rattle.scalar_value.specs.declared.value.ColType.{ColType}
+use Rattle.row_table.specs.declared.field.Field.{Field}
 use Rattle.row_table.specs.Tables.{TableValue}
 use Rattle.column_batch.specs.Batches.{kinds_of}
 use Rattle.plan_machine.specs.declared.entry.Phase.{Phase}
@@ -27,10 +28,10 @@ use Rattle.plan_machine.proofs.Steps.{run, good-opening}
 use Rattle.plan_machine.proofs.Turn.{Started, folds_input, streams_input}
 use Rattle.plan_nodes.specs.declared.node.Node.{Node}
 use Rattle.plan_nodes.specs.declared.node.NodeKind.{NodeKind}
-use Rattle.plan_nodes.specs.declared.node.NodeKind.TheVariants.{Source, Filter, Project, HashJoin, Sink}
+use Rattle.plan_nodes.specs.declared.node.NodeKind.TheVariants.{Source, Filter, Project, Longer, Aggregate, HashJoin, OrderBy, Fetch, Window, Sink}
 use Rattle.plan_nodes.specs.Kinds.{kind_meaning, input_count, is_source}
 use Rattle.plan_nodes.specs.Operators.{OpMeaning, item, first_of, second_of, folded_of, size_of, Each, flat}
-use Rattle.plan_nodes.specs.Plans.{IsPlan, node_at, input_kinds, input_at, machine_node_at}
+use Rattle.plan_nodes.specs.Plans.{IsPlan, node_at, input_schemas, input_at, machine_node_at}
 use Rattle.task_work.specs.Sites.{Site}
 use Rattle.task_work.specs.declared.work.Part.{Part}
 use Rattle.task_work.specs.declared.work.Share.{Share}
@@ -57,7 +58,7 @@ pub record Alike (g : Given) (n : ℕ) : Type 0 where
   pub rest : ((plan_of g).node n).rest ≡ (site_of g n).meaning.rest
   pub first : ((plan_of g).node n).first ≡ input_at (node_at g.nodes n).inputs 0
   pub second : ((plan_of g).node n).second ≡ input_at (node_at g.nodes n).inputs 1
-  pub meaning : (site_of g n).meaning ≡ kind_meaning (node_at g.nodes n).kind (input_kinds g.nodes (node_at g.nodes n)) g.pace.batch
+  pub meaning : (site_of g n).meaning ≡ kind_meaning (node_at g.nodes n).kind (input_schemas g.nodes (node_at g.nodes n)) g.pace.batch
   pub inputs : (site_of g n).inputs ≡ map (λ e. kinds_of (node_at g.nodes e).schema) (node_at g.nodes n).inputs
   pub columns : (site_of g n).columns ≡ kinds_of (node_at g.nodes n).schema
 
@@ -85,34 +86,54 @@ source_is g n = refl
 
 -- ---- kinds of nodes
 
-sized : (k : NodeKind) (inputs : List (List ColType)) (batch : ℕ) → (kind_meaning k inputs batch).shape.tails ≡ true → size_of (kind_meaning k inputs batch) ≡ batch
+sized : (k : NodeKind) (inputs : List (List Field)) (batch : ℕ) → (kind_meaning k inputs batch).shape.tails ≡ true → size_of (kind_meaning k inputs batch) ≡ batch
 sized (Source name) inputs batch e = cc
 sized (Filter x) inputs batch e = cc
 sized (Project xs) inputs batch e = cc
+sized (Longer s) inputs batch e = cc
+sized (Aggregate s) inputs batch e = refl
 sized (HashJoin j) inputs batch e = refl
+sized (OrderBy ks) inputs batch e = refl
+sized (Fetch offset count) inputs batch e = refl
+sized (Window s) inputs batch e = refl
 sized Sink inputs batch e = cc
 
-one_input : (k : NodeKind) (inputs : List (List ColType)) (batch : ℕ) → ((kind_meaning k inputs batch).shape.folds ≡ true) ⊎ ((kind_meaning k inputs batch).shape.streams ≡ true) → 1 ≤ input_count k
+one_input : (k : NodeKind) (inputs : List (List Field)) (batch : ℕ) → ((kind_meaning k inputs batch).shape.folds ≡ true) ⊎ ((kind_meaning k inputs batch).shape.streams ≡ true) → 1 ≤ input_count k
 one_input (Source name) inputs batch (inl e) = cc
 one_input (Source name) inputs batch (inr e) = cc
 one_input (Filter x) inputs batch e = omega arith
 one_input (Project xs) inputs batch e = omega arith
+one_input (Longer s) inputs batch e = omega arith
+one_input (Aggregate s) inputs batch e = omega arith
 one_input (HashJoin j) inputs batch e = omega arith
+one_input (OrderBy ks) inputs batch e = omega arith
+one_input (Fetch offset count) inputs batch e = omega arith
+one_input (Window s) inputs batch e = omega arith
 one_input Sink inputs batch e = omega arith
 
-two_inputs : (k : NodeKind) (inputs : List (List ColType)) (batch : ℕ) → (kind_meaning k inputs batch).shape.folds ≡ true → (kind_meaning k inputs batch).shape.streams ≡ true → 2 ≤ input_count k
+two_inputs : (k : NodeKind) (inputs : List (List Field)) (batch : ℕ) → (kind_meaning k inputs batch).shape.folds ≡ true → (kind_meaning k inputs batch).shape.streams ≡ true → 2 ≤ input_count k
 two_inputs (Source name) inputs batch e f = cc
 two_inputs (Filter x) inputs batch e f = cc
 two_inputs (Project xs) inputs batch e f = cc
+two_inputs (Longer s) inputs batch e f = cc
+two_inputs (Aggregate s) inputs batch e f = cc
 two_inputs (HashJoin j) inputs batch e f = omega arith
+two_inputs (OrderBy ks) inputs batch e f = cc
+two_inputs (Fetch offset count) inputs batch e f = cc
+two_inputs (Window s) inputs batch e f = cc
 two_inputs Sink inputs batch e f = cc
 
 -- what only streams streams
-streams_alone : (k : NodeKind) (inputs : List (List ColType)) (batch : ℕ) → is_source k ≡ false → (kind_meaning k inputs batch).shape.folds ≡ false → (kind_meaning k inputs batch).shape.streams ≡ true
+streams_alone : (k : NodeKind) (inputs : List (List Field)) (batch : ℕ) → is_source k ≡ false → (kind_meaning k inputs batch).shape.folds ≡ false → (kind_meaning k inputs batch).shape.streams ≡ true
 streams_alone (Source name) inputs batch e f = cc
 streams_alone (Filter x) inputs batch e f = refl
 streams_alone (Project xs) inputs batch e f = refl
+streams_alone (Longer s) inputs batch e f = refl
+streams_alone (Aggregate s) inputs batch e f = cc
 streams_alone (HashJoin j) inputs batch e f = cc
+streams_alone (OrderBy ks) inputs batch e f = cc
+streams_alone (Fetch offset count) inputs batch e f = cc
+streams_alone (Window s) inputs batch e f = cc
 streams_alone Sink inputs batch e f = cc
 
 starts_folding : (source : Bool) (shape : OpShape) → first_phase_of source shape ≡ Folding → shape.folds ≡ true
@@ -319,7 +340,7 @@ module _ {O S L : Type 0}
         let e = sym x.1 ∙ is in
         let same : x.0 ≡ part = cc in
         let tails = sym a.tails ∙ (known P lawful well told.history legal can.0.sound).tailing n can.0.node can.1.0 in
-        let size : size_of (site_of told.given n).meaning ≡ P.batch = ap size_of a.meaning ∙ sized (node_at told.given.nodes n).kind (input_kinds told.given.nodes (node_at told.given.nodes n)) told.given.pace.batch (sym (ap (λ m. m.shape.tails) a.meaning) ∙ tails) in (
+        let size : size_of (site_of told.given n).meaning ≡ P.batch = ap size_of a.meaning ∙ sized (node_at told.given.nodes n).kind (input_schemas told.given.nodes (node_at told.given.nodes n)) told.given.pace.batch (sym (ap (λ m. m.shape.tails) a.meaning) ∙ tails) in (
           task_of s n job.Tail k blank [],
           flies w n k job.Tail (task_of s n job.Tail k blank []) refl,
           refl,
@@ -337,10 +358,10 @@ module _ {O S L : Type 0}
       starts : Started (plan_of told.given) lawful well (state_of told)
       starts = (run (plan_of told.given) lawful well told.history (opening (plan_of told.given)) (good-opening (plan_of told.given) lawful well) legal sound).good.sound.fit.started
 
-      kind_folds : (site_of told.given n).meaning.shape.folds ≡ true → (kind_meaning (node_at told.given.nodes n).kind (input_kinds told.given.nodes (node_at told.given.nodes n)) told.given.pace.batch).shape.folds ≡ true
+      kind_folds : (site_of told.given n).meaning.shape.folds ≡ true → (kind_meaning (node_at told.given.nodes n).kind (input_schemas told.given.nodes (node_at told.given.nodes n)) told.given.pace.batch).shape.folds ≡ true
       kind_folds e = sym (ap (λ m. m.shape.folds) (alike told.given n).meaning) ∙ e
 
-      kind_streams : (site_of told.given n).meaning.shape.streams ≡ true → (kind_meaning (node_at told.given.nodes n).kind (input_kinds told.given.nodes (node_at told.given.nodes n)) told.given.pace.batch).shape.streams ≡ true
+      kind_streams : (site_of told.given n).meaning.shape.streams ≡ true → (kind_meaning (node_at told.given.nodes n).kind (input_schemas told.given.nodes (node_at told.given.nodes n)) told.given.pace.batch).shape.streams ≡ true
       kind_streams e = sym (ap (λ m. m.shape.streams) (alike told.given n).meaning) ∙ e
 
       counted : length (node_at told.given.nodes n).inputs ≡ input_count (node_at told.given.nodes n).kind
@@ -360,13 +381,13 @@ module _ {O S L : Type 0}
           by (inl o) =
               let x = starts_streaming (site_of told.given n).source (site_of told.given n).meaning.shape (sym a.start ∙ o) in
               ap (λ m. m.shape.streams) a.meaning
-              ∙ streams_alone (node_at told.given.nodes n).kind (input_kinds told.given.nodes (node_at told.given.nodes n)) told.given.pace.batch (sym (source_is told.given n) ∙ x.0) (sym (ap (λ m. m.shape.folds) a.meaning) ∙ x.1)
+              ∙ streams_alone (node_at told.given.nodes n).kind (input_schemas told.given.nodes (node_at told.given.nodes n)) told.given.pace.batch (sym (source_is told.given n) ∙ x.0) (sym (ap (λ m. m.shape.folds) a.meaning) ∙ x.1)
 
       first_input : (site_of told.given n).meaning.shape.streams ≡ true ⊎ (site_of told.given n).meaning.shape.folds ≡ true → (site_of told.given (streams_from (plan_of told.given) n)).columns ≡ first_of (site_of told.given n).inputs
       first_input some =
           let a = alike told.given n in
           let ins = (node_at told.given.nodes n).inputs in
-          let one = one_input (node_at told.given.nodes n).kind (input_kinds told.given.nodes (node_at told.given.nodes n)) told.given.pace.batch (elim some [ inl s ↦ inr (kind_streams s) | inr f ↦ inl (kind_folds f) ]) in
+          let one = one_input (node_at told.given.nodes n).kind (input_schemas told.given.nodes (node_at told.given.nodes n)) told.given.pace.batch (elim some [ inl s ↦ inr (kind_streams s) | inr f ↦ inl (kind_folds f) ]) in
           let c = counted in
           (alike told.given (streams_from (plan_of told.given) n)).columns
           ∙ (ap (λ e. kinds_of (node_at told.given.nodes e).schema) a.first
@@ -383,7 +404,7 @@ module _ {O S L : Type 0}
               let P = plan_of told.given in
               let ins = (node_at told.given.nodes n).inputs in
               let at : folds_from P n ≡ (P.node n).second = ap (λ b. cond b (P.node n).second (P.node n).first) (a.streams ∙ e) in
-              let two = two_inputs (node_at told.given.nodes n).kind (input_kinds told.given.nodes (node_at told.given.nodes n)) told.given.pace.batch (kind_folds folds) (kind_streams e) in
+              let two = two_inputs (node_at told.given.nodes n).kind (input_schemas told.given.nodes (node_at told.given.nodes n)) told.given.pace.batch (kind_folds folds) (kind_streams e) in
               let c = counted in
               ap (λ m. (site_of told.given m).columns) at
               ∙ ((alike told.given (P.node n).second).columns

@@ -1,20 +1,11 @@
 -- What a run answers.
-use Rattle.std.specs.Prelude.{◌≡◌, ℕ, zero, suc, ◌+◌, ◌-◌, ◌<◌, ◌≤◌, Bool, true, false, cond, not, List, [], ◌∷◌, ◌++◌}
-use Rattle.std.specs.declared.alloc.Global.{Global}
-use Rattle.std.specs.declared.sync.Arc.{Arc}
-use Rattle.std.specs.Arc.{arc_value}
-use Rattle.row_table.specs.Tables.{TableValue}
+use Rattle.std.specs.Prelude.{◌≡◌, ℕ, zero, suc, ◌+◌, ◌-◌, ◌≤◌, List, [], ◌∷◌, ◌++◌}
 use Rattle.scalar_value.specs.declared.value.Value.{Value}
 use Rattle.plan_machine.specs.declared.entry.Entry.{Entry}
 use Rattle.plan_machine.specs.Plan.{Plan as MachinePlan, IsEdge}
 use Rattle.plan_machine.specs.State.{opening}
 use Rattle.plan_machine.specs.History.{IsHistory, IsEnded, state_after, peak, result_rows}
 use Rattle.plan_machine.specs.Meaning.{SameRows, meaning}
-use Rattle.plan_nodes.specs.declared.node.Node.{Node}
-use Rattle.plan_nodes.specs.Kinds.{is_source}
-use Rattle.plan_nodes.specs.Plans.{IsSourceTable, node_at, meaning_at}
-use Rattle.plan_nodes.specs.Operators.{OpMeaning, Each}
-use Rattle.plan_store.specs.declared.setting.Setting.{Setting}
 use Rattle.task_core.specs.declared.result.Finished.{Finished}
 use Rattle.plan_store.specs.Told.{Given, plan_of}
 

@@ -110,6 +110,7 @@ impl<O: Operator> PlanState<O> {
         requires sound { (state_of self.now).failed ≡ false }
         ensures { IsTrue result ↔ Enabled (plan_of self.now.given) (state_of self.now) (Entry.Claim worker node job number) }
     {
+        self.runs_plan();
         if self.has_task(worker) {
             return false;
         }
@@ -151,7 +152,10 @@ impl<O: Operator> PlanState<O> {
             Entry::Pause { edge } => !self.failed && self.is_edge(edge) && self.is_over(edge),
             Entry::Resume { edge } => !self.failed && self.is_edge(edge) && self.may_resume(edge),
             Entry::Finish { node } => !self.failed && self.is_node(node) && self.may_finish(node),
-            Entry::Stop { .. } => false,
+            Entry::Stop { .. } => {
+                self.runs_plan();
+                false
+            }
         }
     }
 }

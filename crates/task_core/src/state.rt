@@ -1,5 +1,6 @@
 ghost use Rattle.std.specs.Prelude.{◌≡◌, ◌≤◌};
 ghost use Rattle.plan_machine.specs.Enabled.{Enabled};
+ghost use Rattle.plan_nodes.specs.Plans.{IsPlan};
 ghost use Rattle.plan_store.specs.Told.{Told, plan_of, state_of, with_entry};
 
 use plan_machine::Entry;
@@ -49,6 +50,13 @@ impl<O: Operator> Model for PlanState<O> {
 }
 
 impl<O: Operator> PlanState<O> {
+    /// What it runs is a plan.
+    pub fn runs_plan(&self)
+        ensures { IsPlan self.now.given.nodes }
+    {
+        let _plan = &self.plan;
+    }
+
     /// Pauses an edge on which more batches wait than the threshold.
     pub fn pause(&mut self, edge: u32)
         requires enabled { Enabled (plan_of self.old.given) (state_of self.old) (Entry.Pause edge) }

@@ -31,7 +31,10 @@ pub fn keep_up<O: Operator>(state: &mut PlanState<O>, due: Entry)
         Entry::Pause { edge } => state.pause(edge),
         Entry::Finish { node } => state.finish(node),
         Entry::Resume { edge } => state.resume(edge),
-        Entry::Stop { .. } => unreachable!(),
+        Entry::Stop { .. } => {
+            state.runs_plan();
+            unreachable!()
+        }
         Entry::Claim { .. } => unreachable!(),
         Entry::Deliver { .. } => unreachable!(),
         Entry::Fail { .. } => unreachable!(),

@@ -1,5 +1,4 @@
-use Rattle.std.proofs.Common.{◌≡◌, ◌≤◌, ◌<◌, ◌+◌, ◌*◌, ◌++◌, List, IsTrue, take, drop, refl, sym, ap, ◌∙◌, arith, subst}
-use Rattle.scalar_value.specs.declared.value.Value.{Value}
+use Rattle.std.proofs.Common.{◌≡◌, ◌<◌, ◌*◌, ◌++◌, take, ap, ◌∙◌, arith}
 use Rattle.plan_nodes.specs.Operators.{end_rows, end_count, end_part, size_of}
 use Rattle.task_core.proofs.AtEnd.{parts_join, parts_all}
 use Rattle.task_core.proofs.reading.rows_at_end.Goals as goal

@@ -1,4 +1,4 @@
-use Rattle.std.proofs.Common.{◌≡◌, ◌≤◌, ◌<◌, ◌-◌, [], None, length, map, slice_index_or, sym, ap, subst, ◌∙◌, arith}
+use Rattle.std.proofs.Common.{◌-◌, sym, subst, ◌∙◌, arith}
 use Rattle.plan_machine.specs.History.{IsEnded}
 use Rattle.plan_store.specs.Told.{given_by, plan_of, state_of}
 use Rattle.task_core.specs.AtEnd.{IsSinkPart}
