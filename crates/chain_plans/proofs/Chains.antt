@@ -1,5 +1,5 @@
 -- A chain is a plan, and means what its steps give.
-use Rattle.std.proofs.Common.{◌≡◌, ℕ, zero, suc, ◌+◌, ◌-◌, ◌<◌, ◌≤◌, inl, inr, ◌⊎◌, Bool, true, false, cond, nat_eq, ◌||◌, IsTrue, List, [], ◌∷◌, length, drop, map, refl, sym, ap, subst, ◌∙◌, arith}
+use Rattle.std.proofs.Common.{◌≡◌, ℕ, zero, suc, ◌+◌, ◌-◌, ◌<◌, ◌≤◌, inl, inr, true, false, nat_eq, IsTrue, List, [], ◌∷◌, length, drop, refl, sym, ap, subst, ◌∙◌, arith}
 use Rattle.std.specs.List.{Contains}
 use Rattle.std.proofs.lemmas.Bool.Decides.{eqb_tells}
 use Rattle.scalar_value.specs.declared.value.Value.{Value}
@@ -14,8 +14,8 @@ use Rattle.plan_machine.specs.Laws.{MeaningIsWhole}
 use Rattle.plan_nodes.specs.declared.node.Node.{Node}
 use Rattle.plan_nodes.specs.declared.node.NodeKind.{NodeKind}
 use Rattle.plan_nodes.specs.declared.node.NodeKind.TheVariants.{Source, Filter, Project, Longer, Aggregate, HashJoin, OrderBy, Fetch, Window, Sink}
-use Rattle.plan_nodes.specs.Kinds.{kind_meaning, input_count, is_source, is_sink, is_built, asks_order}
-use Rattle.plan_nodes.specs.Plans.{Pace, IsPace, IsPlan, IsNodeOf, node_at, no_node, among, user_from, user_of, mark_by, machine_plan, machine_node, machine_node_at, input_schemas, input_at, tables_of}
+use Rattle.plan_nodes.specs.Kinds.{kind_meaning, input_count, is_sink, is_built, asks_order}
+use Rattle.plan_nodes.specs.Plans.{Pace, IsPlan, IsNodeOf, node_at, no_node, user_from, user_of, mark_by, machine_plan, machine_node, machine_node_at, input_schemas, input_at, tables_of}
 use Rattle.plan_nodes.specs.PlanLaws.{PlansAreWellFormed}
 use Rattle.chain_plans.specs.declared.nodes.Step.{Step}
 use Rattle.chain_plans.specs.Chains.{is_streaming, IsStep, AreSteps, nodes_behind, chain_nodes, step_rows, chain_rows}

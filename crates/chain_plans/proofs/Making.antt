@@ -1,5 +1,5 @@
 -- The nodes of a chain, as they are made.
-use Rattle.std.proofs.Common.{◌≡◌, ℕ, zero, suc, ◌-◌, ◌≤◌, List, [], ◌∷◌, ◌++◌, length, refl, ap, ◌∙◌, arith, slice_index_or}
+use Rattle.std.proofs.Common.{◌≡◌, ℕ, zero, suc, List, [], ◌∷◌, ◌++◌, length, refl, ap, ◌∙◌, arith, slice_index_or}
 use Rattle.std.proofs.lemmas.List.{length-append, append_assoc}
 use Rattle.row_table.specs.declared.table.Mark.{Mark}
 use Rattle.chain_plans.specs.declared.nodes.Step.{Step}

@@ -1,6 +1,5 @@
 -- How many rows a longer gives, and the kinds of nodes that gather their one input.
-use Rattle.std.proofs.Common.{◌≡◌, ℕ, suc, ◌+◌, ◌*◌, ◌≤◌, true, false, cond, not, List, [], ◌∷◌, ◌++◌, length, map, take, drop, refl, arith, length-drop}
-use Rattle.std.specs.List.{filter, range_with_len}
+use Rattle.std.proofs.Common.{◌≡◌, ℕ, suc, ◌+◌, ◌*◌, ◌≤◌, true, false, cond, not, List, [], ◌∷◌, ◌++◌, length, map, drop, refl, arith, length-drop}
 use Rattle.std.specs.declared.cmp.Ordering.{Ordering}
 use Rattle.std.specs.Ordering.{is_gt}
 use Rattle.std.proofs.lemmas.List.{length-map, length-take}
@@ -15,7 +14,7 @@ use Rattle.plan_nodes.specs.declared.options.LongerSpec.{LongerSpec}
 use Rattle.plan_nodes.specs.declared.options.AggSpec.{AggSpec}
 use Rattle.plan_nodes.specs.declared.options.SortKey.{SortKey}
 use Rattle.plan_nodes.specs.declared.options.WindowSpec.{WindowSpec}
-use Rattle.plan_nodes.specs.KindRows.{cell, name_at, longer_rows, group_row, aggregated, key_order, ordered_rows, fetched, window_value, windowed}
+use Rattle.plan_nodes.specs.KindRows.{cell, name_at, longer_rows, group_row, aggregated, key_order, ordered_rows, fetched, windowed}
 use Rattle.plan_bounds.proofs.Joined.{fewer-filter, fewer-flat}
 
 -- a longer gives a row for each chosen column of each row

@@ -1,4 +1,4 @@
-use Rattle.std.proofs.Common.{◌≡◌, ◌≤◌, [], ◌∷◌, ◌+◌, ◌++◌, length}
+use Rattle.std.proofs.Common.{◌≡◌, ◌≤◌, ◌+◌, ◌++◌, length}
 use Rattle.chain_plans.specs.Chains.{chain_nodes, nodes_behind}
 use Rattle.chain_plans.proofs.Making.{last_columns}
 use Rattle.chain_plans.proofs.nodes.chain.Given as goal
