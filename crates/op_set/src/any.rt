@@ -4,7 +4,7 @@ ghost use Rattle.std.specs.Prelude.{◌≡◌, true, List, [], map, IfOk, IsTrue
 use crate::parts::{batches_in, no_rows, nothing};
 use column_batch::Batch;
 use hash_join::{Built, JoinOp};
-use order_fetch::{Gathered, SinkOp};
+use order_fetch::{FetchOp, Gathered, SinkOp};
 use plan_machine::OpShape;
 use plan_nodes::{Operator, Streamed};
 use scalar_value::{Mem, Seq};
@@ -18,23 +18,24 @@ pub enum AnyOp {
     Filter(FilterOp),
     Project(ProjectOp),
     Join(JoinOp),
+    Fetch(FetchOp),
     Sink(SinkOp),
 }
 
-/// The part of a worker: nothing for an operator that keeps nothing, and the batches that it took for a hashjoin or a sink.
+/// The part of a worker: nothing for an operator that keeps nothing, and the batches that it took for one that gathers.
 #[derive(Debug, Drop)]
 pub enum AnyLocal {
     Nothing,
     Batches(Seq<Batch>),
 }
 
-/// The part that all workers share: nothing for an operator that keeps nothing, and the gathered rows for a hashjoin or a
-/// sink.
+/// The part that all workers share: nothing for an operator that keeps nothing, and the gathered rows for one that
+/// gathers.
 #[derive(Debug, Drop)]
 pub enum AnyShared {
     Nothing,
     Join(Built),
-    Sink(Gathered),
+    Gathered(Gathered),
 }
 
 impl Operator for AnyOp {
@@ -59,6 +60,7 @@ impl Operator for AnyOp {
             AnyOp::Filter(op) => op.shape(),
             AnyOp::Project(op) => op.shape(),
             AnyOp::Join(op) => op.shape(),
+            AnyOp::Fetch(op) => op.shape(),
             AnyOp::Sink(op) => op.shape(),
         }
     }
@@ -68,6 +70,7 @@ impl Operator for AnyOp {
             AnyOp::Filter(op) => op.wanted(),
             AnyOp::Project(op) => op.wanted(),
             AnyOp::Join(op) => op.wanted(),
+            AnyOp::Fetch(op) => op.wanted(),
             AnyOp::Sink(op) => op.wanted(),
         }
     }
@@ -76,6 +79,7 @@ impl Operator for AnyOp {
         match self {
             AnyOp::Filter(_) | AnyOp::Project(_) => Ok(AnyLocal::Nothing),
             AnyOp::Join(op) => Ok(AnyLocal::Batches(op.local(alloc)?)),
+            AnyOp::Fetch(op) => Ok(AnyLocal::Batches(op.local(alloc)?)),
             AnyOp::Sink(op) => Ok(AnyLocal::Batches(op.local(alloc)?)),
         }
     }
@@ -84,13 +88,15 @@ impl Operator for AnyOp {
         match self {
             AnyOp::Filter(_) | AnyOp::Project(_) => Ok(AnyShared::Nothing),
             AnyOp::Join(op) => Ok(AnyShared::Join(op.begin(alloc)?)),
-            AnyOp::Sink(op) => Ok(AnyShared::Sink(op.begin(alloc)?)),
+            AnyOp::Fetch(op) => Ok(AnyShared::Gathered(op.begin(alloc)?)),
+            AnyOp::Sink(op) => Ok(AnyShared::Gathered(op.begin(alloc)?)),
         }
     }
 
     fn fold(&self, alloc: Global, local: &mut AnyLocal, batch: Batch) -> Mem<()> {
         match (self, local) {
             (AnyOp::Join(op), AnyLocal::Batches(part)) => op.fold(alloc, part, batch),
+            (AnyOp::Fetch(op), AnyLocal::Batches(part)) => op.fold(alloc, part, batch),
             (AnyOp::Sink(op), AnyLocal::Batches(part)) => op.fold(alloc, part, batch),
             _ => Ok(()),
         }
@@ -116,9 +122,13 @@ impl Operator for AnyOp {
                 let parts = batches_in(alloc, locals)?;
                 Ok(AnyShared::Join(op.seal(rt, alloc, parts)?))
             }
+            AnyOp::Fetch(op) => {
+                let parts = batches_in(alloc, locals)?;
+                Ok(AnyShared::Gathered(op.seal(rt, alloc, parts)?))
+            }
             AnyOp::Sink(op) => {
                 let parts = batches_in(alloc, locals)?;
-                Ok(AnyShared::Sink(op.seal(rt, alloc, parts)?))
+                Ok(AnyShared::Gathered(op.seal(rt, alloc, parts)?))
             }
         }
     }
@@ -140,7 +150,7 @@ impl Operator for AnyOp {
                 ),
                 _ => Ok(nothing(alloc)),
             },
-            AnyOp::Sink(_) => Ok(nothing(alloc)),
+            AnyOp::Fetch(_) | AnyOp::Sink(_) => Ok(nothing(alloc)),
         }
     }
 
@@ -176,7 +186,8 @@ impl Operator for AnyOp {
     fn tails(&self, shared: &AnyShared) -> u64 {
         match (self, shared) {
             (AnyOp::Join(op), AnyShared::Join(built)) => op.tails(built),
-            (AnyOp::Sink(op), AnyShared::Sink(gathered)) => op.tails(gathered),
+            (AnyOp::Fetch(op), AnyShared::Gathered(gathered)) => op.tails(gathered),
+            (AnyOp::Sink(op), AnyShared::Gathered(gathered)) => op.tails(gathered),
             _ => 0,
         }
     }
@@ -184,7 +195,8 @@ impl Operator for AnyOp {
     fn tail(&self, alloc: Global, shared: &AnyShared, k: u64) -> Mem<Batch> {
         match (self, shared) {
             (AnyOp::Join(op), AnyShared::Join(built)) => op.tail(alloc, built, k),
-            (AnyOp::Sink(op), AnyShared::Sink(gathered)) => op.tail(alloc, gathered, k),
+            (AnyOp::Fetch(op), AnyShared::Gathered(gathered)) => op.tail(alloc, gathered, k),
+            (AnyOp::Sink(op), AnyShared::Gathered(gathered)) => op.tail(alloc, gathered, k),
             _ => Ok(no_rows(alloc)),
         }
     }

@@ -1,12 +1,13 @@
 //! The operator of a node.
-ghost use Rattle.std.specs.Prelude.{◌≡◌, ◌<◌, map, IfOk, true, false};
+ghost use Rattle.std.specs.Prelude.{◌≡◌, ◌<◌, ◌≤◌, ◌+◌, ◌-◌, ◌^◌, ℕ, map, IfOk, true, false};
 ghost use Rattle.column_batch.specs.Batches.{kinds_of};
+ghost use Rattle.plan_nodes.specs.declared.node.NodeKind.TheVariants as KindOf;
 ghost use Rattle.plan_nodes.specs.Kinds.{kind_meaning, is_source, is_built};
 ghost use Rattle.plan_nodes.specs.Operators.{first_of, second_of};
 
 use crate::any::AnyOp;
 use hash_join::JoinOp;
-use order_fetch::SinkOp;
+use order_fetch::{FetchOp, SinkOp};
 use plan_nodes::{Node, NodeKind, Operator};
 use row_table::Schema;
 use scalar_value::{Mem, Seq};
@@ -36,6 +37,7 @@ fn second_schema(alloc: Global, inputs: &[&Schema]) -> Mem<Schema>
 pub fn op_of(alloc: Global, node: &Node, inputs: &[&Schema], batch: u32) -> Mem<AnyOp>
     requires no_source { is_source node.now.kind ≡ false }
     requires built { is_built node.now.kind ≡ true }
+    requires within { (offset count : ℕ) → node.now.kind ≡ KindOf.Fetch offset count → offset + count ≤ 2 ^ 64 - 1 }
     requires sized { 0 < batch }
     ensures { IfOk result (λ made. ⟦<AnyOp as Operator>⟧.meaning made ≡ kind_meaning node.now.kind (map (λ s. s.now) inputs.now) batch) }
 {
@@ -50,12 +52,12 @@ pub fn op_of(alloc: Global, node: &Node, inputs: &[&Schema], batch: u32) -> Mem<
             let right = second_schema(alloc, inputs)?;
             Ok(AnyOp::Join(JoinOp::new(spec.copy()?, left, right, batch)))
         }
+        NodeKind::Fetch(offset, count) => Ok(AnyOp::Fetch(FetchOp::new(*offset, *count, batch))),
         NodeKind::Sink => Ok(AnyOp::Sink(SinkOp::new(batch))),
         NodeKind::Source(_)
         | NodeKind::Longer(_)
         | NodeKind::Aggregate(_)
         | NodeKind::OrderBy(_)
-        | NodeKind::Fetch(_, _)
         | NodeKind::Window(_) => unreachable!(),
     }
 }

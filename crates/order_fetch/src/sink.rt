@@ -2,12 +2,11 @@
 ghost use Rattle.std.specs.Prelude.{◌≡◌, ◌<◌, List, [], ◌∷◌, IfOk, OnOk, IsOk, IsTrue, Ok, None};
 ghost use Rattle.plan_nodes.specs.Kinds.{sink_meaning};
 
-use crate::gather::{flat_batches, kinds_of_first, ordered_rows, rows_of_part};
+use crate::gather::{Gathered, keep, nothing};
 use column_batch::Batch;
-use plan_machine::{OpShape, part_count};
+use plan_machine::OpShape;
 use plan_nodes::{Operator, Streamed};
-use row_table::Row;
-use scalar_value::{ColType, Mem, Seq};
+use scalar_value::{Mem, Seq};
 use std::alloc::Global;
 use std::thread::Threads;
 
@@ -16,13 +15,6 @@ use std::thread::Threads;
 pub struct SinkOp {
     batch: u32,
     ghost sized: { 0 < batch },
-}
-
-/// The rows that a sink gathered, with the types of their columns.
-#[derive(Debug, Drop)]
-pub struct Gathered {
-    kinds: Seq<ColType>,
-    rows: Seq<Row>,
 }
 
 impl SinkOp {
@@ -70,15 +62,11 @@ impl Operator for SinkOp {
     }
 
     fn begin(&self, alloc: Global) -> Mem<Gathered> {
-        Ok(Gathered {
-            kinds: Seq::new(alloc),
-            rows: Seq::new(alloc),
-        })
+        Ok(Gathered::new(alloc))
     }
 
     fn fold(&self, _alloc: Global, local: &mut Seq<Batch>, batch: Batch) -> Mem<()> {
-        let _rows = batch.rows();
-        local.push(batch)
+        keep(local, batch)
     }
 
     fn seal<R: Threads + Sync>(
@@ -91,10 +79,7 @@ impl Operator for SinkOp {
             → Each (Keeps (first_of inputs)) locals lists
             → IfOk result (λ made. HoldsRows inputs made.kinds made.rows (gathered (flat lists))) }
     {
-        let all = flat_batches(alloc, locals)?;
-        let kinds = kinds_of_first(alloc, all.as_slice())?;
-        let rows = ordered_rows(alloc, all)?;
-        Ok(Gathered { kinds, rows })
+        Gathered::of_parts(alloc, locals)
     }
 
     /// A sink gives nothing for a single batch.
@@ -108,33 +93,27 @@ impl Operator for SinkOp {
     ) -> Mem<Streamed>
         ensures { IfOk result (λ given. (given.out.rows ≡ []) × (given.next ≡ None)) }
     {
-        let out = Batch::of_rows(None, Seq::new(alloc), Seq::new(alloc));
-        Ok(Streamed { out, next: None })
+        Ok(nothing(alloc))
     }
 
     /// A sink streams nothing: it holds what it held.
     fn close<R: Threads + Sync>(
         &self,
         _rt: &R,
-        alloc: Global,
+        _alloc: Global,
         shared: &Gathered,
         _locals: Seq<Seq<Batch>>,
     ) -> Mem<Gathered>
         ensures { IfOk result (λ made. made ≡ shared.now) }
     {
-        Ok(Gathered {
-            kinds: Seq::of_slice(alloc, shared.kinds.as_slice())?,
-            rows: shared.rows.copy()?,
-        })
+        shared.copy()
     }
 
     fn tails(&self, shared: &Gathered) -> u64 {
-        part_count(shared.rows.len() as u64, self.batch)
+        shared.parts(self.batch)
     }
 
     fn tail(&self, alloc: Global, shared: &Gathered, k: u64) -> Mem<Batch> {
-        let rows = rows_of_part(alloc, shared.rows.as_slice(), k, self.batch)?;
-        let kinds = Seq::of_slice(alloc, shared.kinds.as_slice())?;
-        Ok(Batch::of_rows(None, kinds, rows))
+        shared.part(alloc, k, self.batch)
     }
 }

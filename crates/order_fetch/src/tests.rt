@@ -1,9 +1,9 @@
-//! A sink through the bound: two workers' batches, put in order and read in parts.
+//! A sink and a fetch through the bound: two workers' batches, put in order and read in parts.
 ghost use Rattle.std.specs.Prelude.{◌≡◌, ◌∷◌, [], List, IfOk, IsTrue, true};
 ghost use Rattle.column_batch.specs.Batches.{fits_kinds};
 ghost use Rattle.plan_nodes.specs.Operators.{folded_of};
 
-use crate::SinkOp;
+use crate::{FetchOp, SinkOp};
 use column_batch::Batch;
 use plan_nodes::Operator;
 use row_table::Row;
@@ -70,19 +70,48 @@ fn expect_numbers<R: Abort>(rt: &R, batch: &Batch, wanted: &[i64]) {
     }
 }
 
+/// Whether the parts hold these numbers, three in each part but the last.
+fn expect_parts<R: Abort>(rt: &R, parts: &Seq<Batch>, wanted: &[i64]) {
+    assert_eq!(rt; parts.len(), wanted.len().div_ceil(3));
+    for (part, numbers) in parts.as_slice().iter().zip(wanted.chunks(3)) {
+        expect_numbers(rt, part, numbers);
+    }
+}
+
 #[test]
 fn rows_are_gathered_in_the_order_of_their_indexes(rt: HostRuntime) -> Result<(), Fail> {
     let alloc = rt.alloc();
     let late = batch_of(alloc, Some(1), 30, 40)?;
     let early = batch_of(alloc, Some(0), 10, 20)?;
     let parts = gathered(&rt, alloc, &SinkOp::new(3), late, early)?;
-    assert_eq!(rt; parts.len(), 2);
-    for (part, wanted) in parts
-        .as_slice()
-        .iter()
-        .zip([[10, 20, 30].as_slice(), [40].as_slice()])
-    {
-        expect_numbers(&rt, part, wanted);
+    expect_parts(&rt, &parts, &[10, 20, 30, 40]);
+    Ok(())
+}
+
+/// What a fetch gives of the rows 10, 20, 30 and 40, of which the last two come first.
+fn fetched<R: Threads + Sync>(rt: &R, alloc: Global, offset: u32, count: u32) -> Mem<Seq<Batch>> {
+    let op = FetchOp::new(u64::from(offset), u64::from(count), 3);
+    let late = batch_of(alloc, Some(1), 30, 40)?;
+    let early = batch_of(alloc, Some(0), 10, 20)?;
+    gathered(rt, alloc, &op, late, early)
+}
+
+#[test]
+fn a_fetch_gives_so_many_rows_behind_the_first_ones(rt: HostRuntime) -> Result<(), Fail> {
+    let alloc = rt.alloc();
+    let all = [10, 20, 30, 40];
+    let cases = [
+        (0, 3, &all[..3]),
+        (1, 2, &all[1..3]),
+        (0, 9, &all[..]),
+        (3, 2, &all[3..]),
+        (4, 2, &all[4..]),
+        (9, 2, &all[4..]),
+        (1, 0, &all[1..1]),
+    ];
+    for (offset, count, wanted) in cases {
+        let parts = fetched(&rt, alloc, offset, count)?;
+        expect_parts(&rt, &parts, wanted);
     }
     Ok(())
 }

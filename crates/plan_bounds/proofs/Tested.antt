@@ -38,3 +38,6 @@ worked_inputs = [] ∷ [] ∷ (1 ∷ 2 ∷ []) ∷ (3 ∷ []) ∷ (4 ∷ []) ∷
 
 abbrev pub square_inputs : List (List ℕ)
 square_inputs = [] ∷ (1 ∷ 1 ∷ []) ∷ (2 ∷ 2 ∷ []) ∷ (3 ∷ 3 ∷ []) ∷ (4 ∷ 4 ∷ []) ∷ []
+
+abbrev pub fetched_inputs : List (List ℕ)
+fetched_inputs = [] ∷ (1 ∷ []) ∷ (2 ∷ []) ∷ []

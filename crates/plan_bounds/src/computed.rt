@@ -81,12 +81,16 @@ fn node_bound(node: &Node, table: Bound, bounds: &[Bound]) -> Option<Bound>
         NodeKind::HashJoin(_) => {
             join_bound(input_bound(bounds, node, 0), input_bound(bounds, node, 1))
         }
+        NodeKind::Fetch(_, _) => {
+            let rows = input_bound(bounds, node, 0).rows;
+            Some(Bound {
+                rows,
+                batches: rows,
+            })
+        }
         NodeKind::Sink => Some(NOTHING),
-        NodeKind::Longer(_)
-        | NodeKind::Aggregate(_)
-        | NodeKind::OrderBy(_)
-        | NodeKind::Fetch(_, _)
-        | NodeKind::Window(_) => unreachable!(),
+        NodeKind::Longer(_) | NodeKind::Aggregate(_) | NodeKind::OrderBy(_) | NodeKind::Window(_) =>
+            unreachable!(),
     }
 }
 

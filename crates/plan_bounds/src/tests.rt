@@ -69,6 +69,18 @@ fn squares(alloc: Global) -> Mem<Seq<Node>>
     Ok(nodes)
 }
 
+/// A source, a fetch of it and the sink.
+fn fetched_nodes(alloc: Global) -> Mem<Seq<Node>>
+    ensures inputs { IfOk result (λ nodes. map (λ v. v.inputs) nodes ≡ [] ∷ (1 ∷ []) ∷ (2 ∷ []) ∷ []) }
+    ensures built { IfOk result (λ nodes. All (λ v. is_built v.kind ≡ true) nodes) }
+{
+    let mut nodes = Seq::new(alloc);
+    nodes.push(source(alloc)?)?;
+    nodes.push(node(alloc, NodeKind::Fetch(1, 1), &[1])?)?;
+    nodes.push(node(alloc, NodeKind::Sink, &[2])?)?;
+    Ok(nodes)
+}
+
 /// So many rows without values.
 fn table(alloc: Global, rows: u64) -> Mem<Seq<Row>> {
     let mut table = Seq::new(alloc);
@@ -91,5 +103,8 @@ fn bounds_are_computed(rt: HostRuntime) -> Result<(), Fail> {
     let many = vec![in alloc; table(alloc, 255)?]?;
     let most = most_entries_of(alloc, nodes.as_slice(), &many, 2)?;
     assert_eq!(rt; most, None);
+    let fetched = fetched_nodes(alloc)?;
+    let most = most_entries_of(alloc, fetched.as_slice(), &tables, 2)?;
+    assert_eq!(rt; most, Some(74));
     Ok(())
 }

@@ -68,10 +68,10 @@ five Q a b c d e (suc (suc (suc (suc zero)))) l h = d
 five Q a b c d e (suc (suc (suc (suc (suc zero))))) l h = e
 five Q a b c d e (suc (suc (suc (suc (suc (suc n)))))) l h = absurd (omega arith)
 
-in-none : (e : ℕ) → Contains [] e → ⊥
+pub in-none : (e : ℕ) → Contains [] e → ⊥
 in-none e h = let a = h.1 in omega arith
 
-in-one : (Q : ℕ → Type 0) (a : ℕ) → Q a → (e : ℕ) → Contains (a ∷ []) e → Q e
+pub in-one : (Q : ℕ → Type 0) (a : ℕ) → Q a → (e : ℕ) → Contains (a ∷ []) e → Q e
 in-one Q a q e (zero, h, same) = subst Q same q
 in-one Q a q e (suc k, h, same) = absurd (omega arith)
 

@@ -6,6 +6,7 @@ pub mod Longers
 pub mod Joins
 pub mod Sinks
 pub mod Sources
+pub mod Fetches
 pub mod EachKind
 pub mod Inputs
 pub mod Schemas

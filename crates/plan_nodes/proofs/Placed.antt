@@ -1,15 +1,15 @@
 -- A node of a well-formed plan, as the machine sees it: in its place, and lawful.
-use Rattle.std.proofs.Common.{◌≡◌, ℕ, ◌<◌, ◌⊎◌, inl, inr, Bool, true, false, List, length, None, refl, sym, ◌∙◌, ap}
+use Rattle.std.proofs.Common.{◌≡◌, ℕ, ◌<◌, ◌⊎◌, inl, inr, Bool, true, false, List, length, Some, None, refl, sym, ◌∙◌, ap}
 use Rattle.std.specs.List.{Contains}
 use Rattle.scalar_value.specs.declared.value.Value.{Value}
 use Rattle.plan_machine.specs.Plan.{Plan as MachinePlan, IsSource, Folds, OnlyStreams, IsJoin, folds_from, streams_from}
 use Rattle.plan_machine.specs.WellFormed.{IsInput, IsPlaced, IsSinkNode, LawfulNode}
 use Rattle.plan_nodes.specs.declared.node.Node.{Node}
 use Rattle.plan_nodes.specs.Operators.{OpMeaning}
-use Rattle.plan_nodes.specs.Kinds.{is_source, is_sink}
+use Rattle.plan_nodes.specs.Kinds.{is_source, is_sink, asks_order}
 use Rattle.plan_nodes.specs.Plans.{Pace, IsNodeOf, is_kept, node_at, input_at, input_schemas, input_marks, meaning_at, machine_node_at, machine_plan}
 use Rattle.plan_nodes.proofs.Lawful.{LawfulMeaning}
-use Rattle.plan_nodes.proofs.EachKind.{is_join, kind-lawful, kind-wants, FitKind, kind-fit, KeepsMark, HasNoMark}
+use Rattle.plan_nodes.proofs.EachKind.{is_join, kind-lawful, kind-asks, kind-wants, FitKind, kind-fit, KeepsMark, HasNoMark}
 use Rattle.plan_nodes.proofs.Inputs.{first-in, first-of-two, second-of-two, two-apart, first-marked, starts-folding, starts-streaming, source-emits, folds-first, streams-first}
 
 bool-cases : (b : Bool) → (b ≡ true) ⊎ (b ≡ false)
@@ -137,9 +137,22 @@ module _ (nodes : List Node) (tables : List (List (List Value))) (pace : Pace) w
   unfolding machine_node_at
   joins-cut n join = ((fit-at n).a_join (is-joined n join)).2
 
-  wants-none : (n : ℕ) → IsNodeOf nodes n (node_at nodes n) → (plan.node n).wanted ≡ None
+  -- a node that asks for an order gathers its first input, whose order is kept
+  asked-kept : (n : ℕ) → IsNodeOf nodes n (node_at nodes n) → asks_order (node_at nodes n).kind (input_schemas nodes (node_at nodes n)) ≡ true → (plan.node (folds_from plan n)).kept ≡ true
   unfolding machine_node_at
-  wants-none n is = kind-wants (node_at nodes n).kind (input_schemas nodes (node_at nodes n)) pace.batch is.built
+  asked-kept n is asks =
+      let a = kind-asks (node_at nodes n).kind (input_schemas nodes (node_at nodes n)) pace.batch asks in
+      let streams : (the_meaning n).shape.streams ≡ false = a.2 in
+      let first = first-marked (λ e. (node_at nodes e).mark) (node_at nodes n).inputs (one-input n is a.0 a.1) in
+      rw streams (ap is_kept (sym first ∙ is.ordered asks))
+
+  -- a node that wants to see only some rows gathers them, and their order is kept
+  fetch-at : (n m : ℕ) → IsNodeOf nodes n (node_at nodes n) → (plan.node n).wanted ≡ Some m → Folds (plan.node n) × ((plan.node n).streams ≡ false) × ((plan.node (folds_from plan n)).kept ≡ true)
+  unfolding machine_node_at
+  fetch-at n m is wants =
+      let w = kind-wants (node_at nodes n).kind (input_schemas nodes (node_at nodes n)) pace.batch m wants in
+      let a = kind-asks (node_at nodes n).kind (input_schemas nodes (node_at nodes n)) pace.batch w.1 in
+      (folds-first (is_source (node_at nodes n).kind) (the_meaning n).shape a.0 w.0, a.2, asked-kept n is w.1)
 
   pub placed : (n : ℕ) → IsNodeOf nodes n (node_at nodes n) → (n < length nodes → is_sink (node_at nodes n).kind ≡ false) → IsPlaced plan n
   placed n is no_sink = record {
@@ -153,7 +166,7 @@ module _ (nodes : List Node) (tables : List (List (List Value))) (pace : Pace) w
     loose_join = loose n is;
     loose_cuts = cut-loose n is;
     closes = λ join tails. joins-cut n join;
-    fetch = λ m wants. absurd (let none = wants-none n is in cc);
+    fetch = λ m. fetch-at n m is;
   }
 
   sink-folds : (n : ℕ) → is_sink (node_at nodes n).kind ≡ true → Folds (plan.node n) × ((plan.node n).streams ≡ false) × ((plan.node n).tails ≡ false)
@@ -169,19 +182,23 @@ module _ (nodes : List Node) (tables : List (List (List Value))) (pace : Pace) w
       let streams : (the_meaning n).shape.streams ≡ false = a.3 in
       rw streams (kept-by-first n is a.0 a.5 (one-input n is a.0 a.1) kept)
 
+  sink-wants : (n : ℕ) → is_sink (node_at nodes n).kind ≡ true → (plan.node n).wanted ≡ None
+  unfolding machine_node_at
+  sink-wants n sink = ((fit-at n).sinks sink).6
+
   pub sink-placed : (n : ℕ) → IsNodeOf nodes n (node_at nodes n) → is_sink (node_at nodes n).kind ≡ true → IsSinkNode plan n
   sink-placed n is sink =
       let a = sink-folds n sink in
-      record { folds = a.0; only_folds = (a.1, a.2); no_fetch = wants-none n is; in_order = sink-ordered n is sink }
+      record { folds = a.0; only_folds = (a.1, a.2); no_fetch = sink-wants n sink; in_order = sink-ordered n is sink }
 
-  lawful-at : (n : ℕ) → IsNodeOf nodes n (node_at nodes n) → (gathers : Bool) → LawfulMeaning (the_meaning n) gathers (is_kept (node_at nodes n).mark)
-  lawful-at n is gathers =
-      kind-lawful (node_at nodes n).kind (input_schemas nodes (node_at nodes n)) pace.batch gathers (is_kept (node_at nodes n).mark) is.built (join-unmarked n is)
+  lawful-at : (n : ℕ) → IsNodeOf nodes n (node_at nodes n) → (gathers : Bool) → (asks_order (node_at nodes n).kind (input_schemas nodes (node_at nodes n)) ≡ true → gathers ≡ true) → LawfulMeaning (the_meaning n) gathers (is_kept (node_at nodes n).mark)
+  lawful-at n is gathers asked =
+      kind-lawful (node_at nodes n).kind (input_schemas nodes (node_at nodes n)) pace.batch gathers (is_kept (node_at nodes n).mark) is.built (join-unmarked n is) asked
 
   pub node-lawful : (n : ℕ) → IsNodeOf nodes n (node_at nodes n) → LawfulNode plan n
   unfolding machine_node_at
   node-lawful n is =
-      let l = lawful-at n is (plan.node (folds_from plan n)).kept in
+      let l = lawful-at n is (plan.node (folds_from plan n)).kept (asked-kept n is) in
       record {
         part_nil = λ streams. l.part_nil;
         part_append = λ streams. l.part_append;

@@ -313,6 +313,6 @@ is_built (Longer s) = false
 is_built (Aggregate s) = false
 is_built (HashJoin j) = true
 is_built (OrderBy ks) = false
-is_built (Fetch offset count) = false
+is_built (Fetch offset count) = true
 is_built (Window s) = false
 is_built Sink = true

@@ -20,8 +20,8 @@ use Rattle.plan_nodes.specs.Plans.{IsSourceTable, node_at, no_node, IsPace, mach
 use Rattle.plan_store.specs.declared.setting.Setting.{Setting}
 use Rattle.plan_store.specs.Told.{plan_of, given_by, pace_of}
 use Rattle.plan_store.specs.Beginning.{AreTables, IsSetting, numbers_of}
-use Rattle.task_core.specs.declared.result.Finished.{Finished}
-use Rattle.task_core.specs.Opening.{IsFinished}
+use Rattle.run_state.specs.declared.result.Finished.{Finished}
+use Rattle.run_state.specs.Opening.{IsFinished}
 use Rattle.chain_plans.specs.declared.nodes.Step.{Step}
 use Rattle.chain_plans.specs.Chains.{is_streaming, IsStep, AreSteps, nodes_behind, chain_nodes, chain_rows}
 use Rattle.chain_plans.specs.ChainLaws.{ChainsMean}

@@ -1,6 +1,7 @@
 -- The numbers of the nodes that are no sources, and what stands for each of them.
-use Rattle.std.proofs.Common.{Result, Ok, Err, OnOk, ◌≡◌, ℕ, zero, suc, ◌+◌, ◌-◌, ◌<◌, ◌≤◌, Bool, true, false, cond, not, List, [], ◌∷◌, ◌++◌, length, take, refl, sym, ap, subst, ◌∙◌, arith, slice_index_or}
+use Rattle.std.proofs.Common.{Result, Ok, Err, OnOk, ◌≡◌, ℕ, zero, suc, ◌+◌, ◌-◌, ◌<◌, ◌≤◌, ◌^◌, IsTrue, Bool, true, false, cond, not, List, [], ◌∷◌, ◌++◌, length, take, refl, sym, ap, subst, ◌∙◌, arith, slice_index_or}
 use Rattle.std.specs.List.{Contains}
+use Rattle.std.proofs.lemmas.Bool.{leb-true}
 use Rattle.std.proofs.lemmas.List.{append-nil}
 use Rattle.std.proofs.lemmas.List.Elements.{Contains-get_or}
 use Rattle.std.specs.declared.alloc.Global.{Global}
@@ -8,16 +9,13 @@ use Rattle.std.specs.declared.sync.Arc.{Arc}
 use Rattle.std.specs.Arc.{arc_value}
 use Rattle.plan_machine.specs.Lists.{at_or}
 use Rattle.plan_nodes.specs.declared.node.Node.{Node}
-use Rattle.plan_nodes.specs.Kinds.{is_source, is_built}
+use Rattle.plan_nodes.specs.declared.node.NodeKind.TheVariants.{Fetch}
+use Rattle.plan_nodes.specs.Kinds.{is_source, is_built, kind_meaning}
 use Rattle.plan_nodes.specs.Operators.{OpMeaning, Each}
-use Rattle.plan_nodes.specs.Plans.{IsPlan, node_at, no_node, meaning_at, user_of}
+use Rattle.plan_nodes.specs.Plans.{IsPlan, node_at, no_node, meaning_at, user_of, input_schemas, input_kinds}
 use Rattle.plan_store.specs.Beginning.{numbers_of}
+use Rattle.plan_store.proofs.At.{at_slice}
 use Rattle.plan_runs.specs.SoFar.{AreFirst}
-
-pub at_slice : {A : Type 0} (d e : A) (k : ℕ) (xs : List A) → k < length xs → at_or d k xs ≡ slice_index_or xs k e
-at_slice d e k [] l = absurd (omega arith)
-at_slice d e zero (x ∷ xs) l = refl
-at_slice d e (suc k) (x ∷ xs) l = at_slice d e k xs (omega arith)
 
 cond_append : (b : Bool) (k : ℕ) (M Z : List ℕ) → cond b (k ∷ (M ++ Z)) (M ++ Z) ≡ cond b (k ∷ M) M ++ Z
 cond_append true k M Z = refl
@@ -65,6 +63,13 @@ node_is nodes e k v at l is = ap (node_at nodes) (sym at) ∙ (at_slice no_node 
 -- a plan's nodes are of kinds that are built
 pub built_at : (nodes : List Node) (k : ℕ) → IsPlan nodes → k < length nodes → is_built (node_at nodes (suc k)).kind ≡ true
 built_at nodes k plan l = (plan.placed (suc k) (omega arith) (omega arith)).built
+
+-- a fetch of a plan wants to see no more rows than 64 bits count
+pub within_at : (nodes : List Node) (k : ℕ) → IsPlan nodes → k < length nodes → (offset count : ℕ) → (node_at nodes (suc k)).kind ≡ Fetch offset count → offset + count ≤ 2 ^ 64 - 1
+within_at nodes k plan l offset count is =
+    let v = node_at nodes (suc k) in
+    leb-true (offset + count) (2 ^ 64 - 1)
+    (subst (λ kind. IsTrue ((kind_meaning kind (input_schemas nodes v) 1).fits (input_kinds nodes v))) is (plan.placed (suc k) (omega arith) (omega arith)).fits)
 
 pub on_ok : {T E : Type 0} (r : Result T E) (A B : Type 0) → (A → B) → OnOk r A → OnOk r B
 on_ok (Ok x) A B f h = f h

@@ -6,7 +6,7 @@ ghost use Rattle.row_table.specs.declared.table.Mark.TheVariants as mark;
 ghost use Rattle.plan_machine.specs.Driver.{IsDriven};
 ghost use Rattle.plan_store.specs.Told.{plan_of, given_by};
 ghost use Rattle.plan_store.specs.Beginning.{IsSetting};
-ghost use Rattle.task_core.specs.Opening.{IsFinished};
+ghost use Rattle.run_state.specs.Opening.{IsFinished};
 ghost use Rattle.chain_plans.specs.Chains.{AreSteps, chain_nodes, chain_rows};
 
 use crate::run::run_plan;

@@ -5,7 +5,7 @@ ghost use Rattle.plan_bounds.specs.Bounds.{most_entries};
 ghost use Rattle.plan_nodes.specs.Plans.{IsPlan};
 ghost use Rattle.plan_store.specs.Told.{plan_of, given_by, pace_of, rows_of_tables};
 ghost use Rattle.plan_store.specs.Beginning.{AreTables, IsSetting};
-ghost use Rattle.task_core.specs.Opening.{IsFinished};
+ghost use Rattle.run_state.specs.Opening.{IsFinished};
 
 use crate::operators::operators_of;
 use plan_nodes::Plan;

@@ -1,5 +1,5 @@
 -- Elements of lists by their places.
-use Rattle.std.proofs.Common.{◌≡◌, ℕ, zero, suc, ◌==◌, ◌||◌, List, [], ◌∷◌, Some, None, refl, ap, ◌∙◌, ◌<◌, length, arith}
+use Rattle.std.proofs.Common.{◌≡◌, ℕ, zero, suc, ◌==◌, ◌||◌, List, [], ◌∷◌, Some, None, refl, ap, ◌∙◌, ◌<◌, length, arith, slice_index_or}
 use Rattle.std.specs.Prelude.{slice_get, unwrap_or}
 use Rattle.std.specs.List.{list_any}
 use Rattle.plan_machine.specs.Lists.{at_or}
@@ -15,6 +15,11 @@ at_some d k xs x e = at_get d k xs ∙ ap (λ o. unwrap_or o d) e
 
 pub at_none : {A : Type 0} (d : A) (k : ℕ) (xs : List A) → slice_get xs k ≡ None → at_or d k xs ≡ d
 at_none d k xs e = at_get d k xs ∙ ap (λ o. unwrap_or o d) e
+
+pub at_slice : {A : Type 0} (d e : A) (k : ℕ) (xs : List A) → k < length xs → at_or d k xs ≡ slice_index_or xs k e
+at_slice d e k [] l = absurd (omega arith)
+at_slice d e zero (x ∷ xs) l = refl
+at_slice d e (suc k) (x ∷ xs) l = at_slice d e k xs (omega arith)
 
 pub among_any : (e : ℕ) (xs : List ℕ) → list_any (λ y. y == e) xs ≡ among e xs
 among_any e [] = refl

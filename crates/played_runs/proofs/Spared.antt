@@ -22,8 +22,8 @@ use Rattle.task_work.specs.Sites.{Site}
 use Rattle.task_work.specs.declared.work.Fruit.{Fruit}
 use Rattle.task_work.specs.Work.{IsWork, IsFruit}
 use Rattle.plan_store.specs.Told.{Told, plan_of, state_of, site_of, with_entry}
-use Rattle.task_core.specs.Calls.{IsInHand, Claimed, IsDue}
-use Rattle.task_core.proofs.Held.{held_map, held_set}
+use Rattle.run_state.specs.Calls.{IsInHand, Claimed, IsDue}
+use Rattle.run_state.proofs.Held.{held_map, held_set}
 use Rattle.worker_run.proofs.Driving.{site_batch}
 use Rattle.played_runs.specs.declared.moves.Hand.{Hand}
 use Rattle.played_runs.specs.Hands.{IsHand, AreHands}

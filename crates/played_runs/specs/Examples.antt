@@ -1,4 +1,4 @@
--- The plan that the tests play: the rows of two tables by their first columns, those whose flag is TRUE, and the sink.
+-- The plans that the tests play.
 use Rattle.std.specs.Prelude.{ℕ, List, [], ◌∷◌, false}
 use Rattle.scalar_value.specs.declared.value.ColType.TheVariants as type
 use Rattle.row_table.specs.declared.field.Field.{Field}
@@ -7,7 +7,7 @@ use Rattle.row_table.specs.declared.join.JoinKind.TheVariants.{Full}
 use Rattle.na_expr.specs.declared.expr.Expr.TheVariants.{Col}
 use Rattle.plan_nodes.specs.declared.node.Node.{Node}
 use Rattle.plan_nodes.specs.declared.node.NodeKind.{NodeKind}
-use Rattle.plan_nodes.specs.declared.node.NodeKind.TheVariants.{Source, Filter, HashJoin, Sink}
+use Rattle.plan_nodes.specs.declared.node.NodeKind.TheVariants.{Source, Filter, HashJoin, Fetch, Sink}
 use Rattle.plan_nodes.specs.declared.options.JoinSpec.{JoinSpec}
 
 abbrev pub left_schema : List Field
@@ -22,6 +22,7 @@ joined_schema = record { name = 97 ∷ []; kind = type.Int } ∷ record { name =
 abbrev pub full_join : JoinSpec
 full_join = record { kind = Full; left_keys = 0 ∷ []; right_keys = 0 ∷ []; na_match = false }
 
+-- the rows of two tables by their first columns, those whose flag is TRUE, and the sink
 abbrev pub join_nodes : List Node
 join_nodes =
     record { kind = Source (120 ∷ []); inputs = []; mark = Kept; schema = left_schema }
@@ -29,4 +30,12 @@ join_nodes =
     ∷ record { kind = HashJoin full_join; inputs = 1 ∷ 2 ∷ []; mark = Unordered; schema = joined_schema }
     ∷ record { kind = Filter (Col 2); inputs = 3 ∷ []; mark = Unordered; schema = joined_schema }
     ∷ record { kind = Sink; inputs = 4 ∷ []; mark = Unordered; schema = joined_schema }
+    ∷ []
+
+-- so many rows of a table behind the first ones, and the sink
+abbrev pub fetch_nodes : ℕ → ℕ → List Node
+fetch_nodes offset count =
+    record { kind = Source (120 ∷ []); inputs = []; mark = Kept; schema = left_schema }
+    ∷ record { kind = Fetch offset count; inputs = 1 ∷ []; mark = Kept; schema = left_schema }
+    ∷ record { kind = Sink; inputs = 2 ∷ []; mark = Kept; schema = left_schema }
     ∷ []

@@ -5,9 +5,9 @@ use Rattle.scalar_value.specs.declared.value.ColType.{ColType}
 use Rattle.plan_machine.specs.Batch.{Batch}
 use Rattle.plan_nodes.specs.Operators.{OpMeaning}
 use Rattle.plan_store.specs.Told.{Given, Told}
-use Rattle.task_core.specs.Calls.{IsInHand}
-use Rattle.task_core.specs.Opening.{IsFinished}
-use Rattle.task_core.specs.Stored.{Held}
+use Rattle.run_state.specs.Calls.{IsInHand}
+use Rattle.run_state.specs.Opening.{IsFinished}
+use Rattle.run_state.specs.Stored.{Held}
 use Rattle.played_runs.specs.declared.moves.Hand.{Hand}
 use Rattle.played_runs.specs.declared.playing.Played.{Played}
 use Rattle.played_runs.specs.declared.playing.Played.TheVariants.{Ended, Failed, Running}

@@ -1,12 +1,13 @@
-//! Schedules played over a join with batches of one row: each that ends has the same rows, and no edge holds more than the pause
-//! threshold and one batch for each worker.
-ghost use Rattle.std.specs.Prelude.{◌≡◌, ◌≤◌, ◌∷◌, [], IfOk, IsTrue};
+//! Schedules played over a join and over a fetch, with batches of one row: each that ends has the same rows, and no edge holds
+//! more than the pause threshold and one batch for each worker.
+ghost use Rattle.std.specs.Prelude.{◌≡◌, ◌≤◌, ◌+◌, ◌-◌, ◌^◌, ◌∷◌, [], ℕ, IfOk, IsTrue};
 ghost use Rattle.row_table.specs.Tables.{fits_row, fit_rows, names_differ};
 ghost use Rattle.plan_store.specs.Beginning.{AreTables};
-ghost use Rattle.played_runs.specs.Examples.{join_nodes, full_join, left_schema as left_columns, right_schema as right_columns, joined_schema as joined_columns};
+ghost use Rattle.played_runs.specs.Examples.{join_nodes, fetch_nodes, full_join, left_schema as left_columns, right_schema as right_columns, joined_schema as joined_columns};
 
 use crate::{Move, Played, play};
 use na_expr::Expr;
+use plan_machine::Entry;
 use plan_nodes::{JoinSpec, Node, NodeKind, Plan};
 use plan_runs::operators_of;
 use row_table::{Field, JoinKind, Mark, Row, Schema, Table};
@@ -316,6 +317,113 @@ fn a_failure_ends_the_run(rt: HostRuntime) -> Result<(), Fail> {
     match played(&rt, alloc, 3, &moves)? {
         Played::Failed => {}
         _ => assert!(rt; false, "no failure"),
+    }
+    Ok(())
+}
+
+fn fetch_plan(alloc: Global, offset: u64, count: u64) -> Mem<Plan>
+    ensures { IfOk result (λ plan. plan.nodes ≡ fetch_nodes offset count) }
+{
+    let mut nodes = Seq::new(alloc);
+    nodes.push(source(alloc, "x", left_schema(alloc)?)?)?;
+    nodes.push(node(
+        alloc,
+        NodeKind::Fetch(offset, count),
+        &[1],
+        Mark::Kept,
+        left_schema(alloc)?,
+    )?)?;
+    nodes.push(node(alloc, NodeKind::Sink, &[2], Mark::Kept, left_schema(alloc)?)?)?;
+    Ok(Plan { nodes })
+}
+
+fn fetch_tables(alloc: Global) -> Mem<Seq<Arc<Table, Global>>>
+    ensures { (offset count : ℕ) → IfOk result (AreTables (fetch_nodes offset count)) }
+{
+    let left = table_of(alloc, left_schema(alloc)?, left_rows(alloc)?);
+    let mut tables = Seq::new(alloc);
+    tables.push(Arc::new(alloc, left)?)?;
+    Ok(tables)
+}
+
+/// Plays the moves over a fetch from the four rows, on three workers.
+fn fetched<R: Threads + Sync>(
+    rt: &R,
+    alloc: Global,
+    offset: u64,
+    count: u64,
+    moves: &[Move],
+) -> Mem<Played>
+    requires { offset + count ≤ 2 ^ 64 - 1 }
+{
+    let plan = fetch_plan(alloc, offset, count)?;
+    let setting = Setting {
+        batch: 1,
+        workers: 3,
+        pause: 1,
+        resume: 0,
+    };
+    let ops = operators_of(alloc, &plan, setting.batch)?;
+    let tables = fetch_tables(alloc)?;
+    play(rt, alloc, &plan, ops, tables, setting, moves, 300)
+}
+
+/// Whether a fetch stopped what it reads.
+fn has_stopped(history: &[Entry]) -> bool {
+    let mut stopped = false;
+    for entry in history {
+        if matches!(entry, Entry::Stop { .. }) {
+            stopped = true;
+        }
+    }
+    stopped
+}
+
+/// Expects that the run has ended with these rows in their order, and whether the fetch stopped its source before its end.
+fn expect_fetched<R: Abort>(
+    rt: &R,
+    alloc: Global,
+    played: Played,
+    wanted: &[Option<i64>],
+    stopped: bool,
+) -> Result<(), Fail> {
+    let Played::Ended(finished) = played else {
+        assert!(rt; false, "no end");
+        return Ok(());
+    };
+    assert_eq!(rt; finished.rows.len(), wanted.len());
+    for place in 0..wanted.len() {
+        let row = row_of(alloc, &[wanted[place]], None)?;
+        match finished.rows.get(place) {
+            Some(found) => assert!(rt; *found == row),
+            None => assert!(rt; false, "no row"),
+        }
+    }
+    assert_eq!(rt; has_stopped(finished.history.as_slice()), stopped);
+    Ok(())
+}
+
+#[test]
+fn a_fetch_stops_what_it_reads(rt: HostRuntime) -> Result<(), Fail> {
+    let alloc = rt.alloc();
+    let alone = [Move::KeepUp, claim(1), deliver(1)];
+    let in_turn = [
+        Move::KeepUp,
+        claim(2),
+        claim(1),
+        claim(3),
+        deliver(1),
+        deliver(3),
+        deliver(2),
+    ];
+    let schedules: [&[Move]; 2] = [&alone, &in_turn];
+    for moves in schedules {
+        let two = fetched(&rt, alloc, 1, 2, moves)?;
+        expect_fetched(&rt, alloc, two, &[Some(2), Some(3)], true)?;
+        let none = fetched(&rt, alloc, 0, 0, moves)?;
+        expect_fetched(&rt, alloc, none, &[], true)?;
+        let rest = fetched(&rt, alloc, 2, 9, moves)?;
+        expect_fetched(&rt, alloc, rest, &[Some(3), None], false)?;
     }
     Ok(())
 }

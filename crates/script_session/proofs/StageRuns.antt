@@ -14,8 +14,8 @@ use Rattle.plan_nodes.specs.declared.node.Node.{Node}
 use Rattle.plan_nodes.specs.declared.node.Plan.{Plan}
 use Rattle.plan_store.specs.declared.setting.Setting.{Setting}
 use Rattle.plan_store.specs.Told.{Given, plan_of, given_by}
-use Rattle.task_core.specs.declared.result.Finished.{Finished}
-use Rattle.task_core.specs.Opening.{IsFinished}
+use Rattle.run_state.specs.declared.result.Finished.{Finished}
+use Rattle.run_state.specs.Opening.{IsFinished}
 use Rattle.chain_plans.specs.declared.nodes.Step.{Step}
 use Rattle.chain_plans.specs.Chains.{AreSteps, chain_nodes, chain_rows}
 use Rattle.verb_forms.specs.Shapes.{shape_of}

@@ -8,8 +8,8 @@ use Rattle.plan_nodes.specs.declared.node.Plan.{Plan}
 use Rattle.plan_nodes.specs.Operators.{Each}
 use Rattle.plan_store.specs.declared.setting.Setting.{Setting}
 use Rattle.plan_store.specs.Told.{Given, plan_of, pace_of}
-use Rattle.task_core.specs.declared.result.Finished.{Finished}
-use Rattle.task_core.specs.Opening.{IsFinished}
+use Rattle.run_state.specs.declared.result.Finished.{Finished}
+use Rattle.run_state.specs.Opening.{IsFinished}
 use Rattle.run_report.specs.declared.record.PlanRun.{PlanRun}
 use Rattle.script_session.specs.declared.status.Status.{Status}
 use Rattle.script_session.specs.declared.status.Status.TheVariants as status

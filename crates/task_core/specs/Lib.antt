@@ -1,12 +1,1 @@
-pub mod Stored
-pub mod Stages
-pub mod Outcome
-pub mod Due
-pub mod Legal
-pub mod Choosing
-pub mod Claiming
-pub mod Calls
-pub mod Known
-pub mod Delivering
-pub mod Opening
-pub mod AtEnd
+pub mod Fronts

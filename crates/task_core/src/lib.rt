@@ -1,22 +1,14 @@
-//! The state of a plan's run: what waits, what is in flight, and the history that led there.
+//! The state of a plan's run, its history, and which entry comes next: the plan machine as the engine drives it.
 #![tactic(auto)]
 
 mod choice;
 mod claim;
 mod deliver;
 mod due;
-mod failing;
 mod legal;
-mod opening;
-mod outcome;
-mod putting;
-mod reading;
-mod result;
 mod room;
 mod state;
-mod taking;
-mod upkeep;
+mod stopping;
 
-pub use plan_store::{Ending, Setting};
-pub use result::Finished;
+pub use run_state::{Ending, Finished, Setting};
 pub use state::PlanState;

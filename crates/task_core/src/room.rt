@@ -1,26 +1,19 @@
-ghost use Rattle.std.specs.Prelude.{◌≡◌, length, max, OnOk, OnErr};
+ghost use Rattle.std.specs.Prelude.{◌≡◌, max, OnOk, OnErr};
 
 use crate::state::PlanState;
+use fetch_counts::reserve_fronts;
 use plan_nodes::Operator;
 use scalar_value::Mem;
 
 impl<O: Operator> PlanState<O> {
     /// Makes room in the history for two entries more than there are tasks in flight, whose deliveries always have room:
-    /// for a claim with its delivery, or for two other entries. Refused for want of memory alone, and then all is as before.
+    /// for a claim with its delivery, or for two other entries; and at each fetch room to count what may be folded till
+    /// then. Refused for want of memory alone, and then all is as before.
     pub fn reserve(&mut self) -> Mem<()>
         ensures ok { OnOk result (self.new ≡ record self.old { room = max self.old.room 2 }) }
         ensures err { OnErr result (self.new ≡ self.old) }
     {
-        let room = self.room.max(2);
-        self.history.reserve(self.flying + room)?;
-        self.room = room;
-        Ok(())
-    }
-
-    /// How many entries the history has.
-    pub fn length(&self) -> u64
-        ensures { result ≡ length self.now.history }
-    {
-        self.history.len() as u64
+        reserve_fronts(&mut self.fronts, self.run.due_entries())?;
+        self.run.reserve()
     }
 }

@@ -1,60 +1,78 @@
-ghost use Rattle.std.specs.Prelude.{◌≡◌, ◌≤◌};
+ghost use Rattle.std.specs.Prelude.{◌≡◌, ◌↔◌, ◌≤◌, [], length, IfOk};
 ghost use Rattle.plan_machine.specs.Enabled.{Enabled};
+ghost use Rattle.plan_machine.specs.History.{IsEnded, HasFailed};
 ghost use Rattle.plan_nodes.specs.Plans.{IsPlan};
-ghost use Rattle.plan_store.specs.Told.{Told, plan_of, state_of, with_entry};
+ghost use Rattle.plan_store.specs.Told.{Told, plan_of, state_of, with_entry, given_by};
+ghost use Rattle.plan_store.specs.Beginning.{AreTables, AreOperators, IsSetting};
+ghost use Rattle.run_state.specs.Opening.{IsFinished};
 
+use fetch_counts::{Front, fronts_of};
 use plan_machine::Entry;
 use plan_nodes::{Operator, Plan};
-use plan_store::{Flight, NodeInfo, Queue, Setting, Stage, set_paused};
 use row_table::Table;
-use scalar_value::Seq;
+use run_state::{Ending, Finished, RunState, Setting};
+use scalar_value::{Mem, Seq};
 use std::alloc::Global;
 use std::marker::Model;
 use std::sync::Arc;
-use task_work::Share;
 
 /// The state of a plan's run, with its history. What it stores stands for the replay of that history.
 #[derive(Drop)]
 pub struct PlanState<O: Operator> {
-    pub(crate) plan: Plan,
-    pub(crate) sources: Seq<Arc<Table, Global>>,
-    pub(crate) setting: Setting,
-    pub(crate) infos: Vec<NodeInfo>,
-    pub(crate) stages: Vec<Stage>,
-    pub(crate) queues: Vec<Queue>,
-    pub(crate) shares: Vec<Vec<Option<Share<O, O::Shared, O::Local>>>>,
-    pub(crate) seats: Vec<Option<Flight>>,
-    pub(crate) failed: bool,
-    pub(crate) flying: usize,
-    pub(crate) history: Vec<Entry>,
-    pub(crate) room: usize,
+    pub(crate) run: RunState<O>,
+    pub(crate) fronts: Vec<Front>,
 }
 
 impl<O: Operator> Model for PlanState<O> {
-    ghost use Rattle.std.specs.Prelude.{map, vec_capacity};
     ghost use Rattle.std.specs.Coded.{codes};
     ghost use Rattle.na_expr.specs.contracts.expr.Expr as expr;
-    ghost use Rattle.plan_store.specs.Told.{Told, given_by};
-    ghost use Rattle.task_core.specs.Stored.{Stands};
+    ghost use Rattle.plan_store.specs.Told.{Told};
+    ghost use Rattle.task_core.specs.Fronts.{FrontsStand};
 
     ghost Value = { Told };
 
     ghost coded = { Prim.hlevel (codes, expr.the_row.coded) };
 
-    ghost view = { λ p. record { given = given_by p.plan.nodes p.sources p.setting; history = p.history.items; room = p.room } };
+    ghost view = { λ p. p.run };
 
-    ghost invariant = { λ p.
-        Stands O.meaning O.local_is O.shared_is (given_by p.plan.nodes p.sources p.setting) p.history.items p.infos.items
-        p.stages.items p.queues.items (map (λ row. row.items) p.shares.items) p.seats.items p.failed p.flying p.room
-        (vec_capacity p.history) };
+    ghost invariant = { λ p. FrontsStand p.run p.fronts.items };
 }
 
 impl<O: Operator> PlanState<O> {
-    /// What it runs is a plan.
-    pub fn runs_plan(&self)
-        ensures { IsPlan self.now.given.nodes }
+    /// A run of a plan that begins: over a table for each of its sources and an operator for each other node, both in the
+    /// order of the plan, at this setting. It takes the room of all edges, so whoever has claimed can always deliver.
+    pub fn new(
+        alloc: Global,
+        plan: &Plan,
+        ops: Seq<Arc<O, Global>>,
+        sources: Seq<Arc<Table, Global>>,
+        setting: Setting,
+    ) -> Mem<PlanState<O>>
+        requires planned { IsPlan plan.now.nodes }
+        requires nodes { length plan.now.nodes ≤ 256 }
+        requires operators { AreOperators O.meaning plan.now.nodes setting.batch ops }
+        requires tables { AreTables plan.now.nodes sources }
+        requires setting { IsSetting setting }
+        ensures { IfOk result (λ state. state ≡ record { given = given_by plan.now.nodes sources setting; history = []; room = 0 }) }
     {
-        let _plan = &self.plan;
+        let fronts = fronts_of(alloc, plan.nodes.as_slice())?;
+        let run = RunState::new(alloc, plan, ops, sources, setting)?;
+        Ok(PlanState { run, fronts })
+    }
+
+    /// How many entries the history has.
+    pub fn length(&self) -> u64
+        ensures { result ≡ length self.now.history }
+    {
+        self.run.length()
+    }
+
+    /// Whether the run has ended, with its sink Done, or has failed, in both cases with nothing in flight; else it goes on.
+    pub fn ended(&self) -> Ending
+        ensures ended { (result ≡ Ending.Ended) ↔ IsEnded (plan_of self.now.given) (state_of self.now) }
+        ensures failed { (result ≡ Ending.Failed) ↔ HasFailed (plan_of self.now.given) (state_of self.now) }
+    {
+        self.run.ended()
     }
 
     /// Pauses an edge on which more batches wait than the threshold.
@@ -63,9 +81,56 @@ impl<O: Operator> PlanState<O> {
         requires room { 1 ≤ self.old.room }
         ensures { self.new ≡ with_entry self.old (Entry.Pause edge) 1 }
     {
-        let _room = self.room;
-        set_paused(&mut self.queues, (edge - 1) as usize, true);
-        self.history.push_reserved(Entry::Pause { edge });
-        self.room -= 1;
+        self.run.pause(edge);
+    }
+
+    /// Lets an edge go on that is paused, and on which no more batches wait than the lower threshold.
+    pub fn resume(&mut self, edge: u32)
+        requires enabled { Enabled (plan_of self.old.given) (state_of self.old) (Entry.Resume edge) }
+        requires room { 1 ≤ self.old.room }
+        ensures { self.new ≡ with_entry self.old (Entry.Resume edge) 1 }
+    {
+        self.run.resume(edge);
+    }
+
+    /// Ends a node that has given all of its rows, with none of its tasks in flight. As in Acero, a node is finished once
+    /// it has sent its last batch on.
+    pub fn finish(&mut self, node: u32)
+        requires enabled { Enabled (plan_of self.old.given) (state_of self.old) (Entry.Finish node) }
+        requires room { 1 ≤ self.old.room }
+        ensures { self.new ≡ with_entry self.old (Entry.Finish node) 1 }
+    {
+        self.run.finish(node);
+    }
+
+    /// Ends all nodes below a fetch that has seen the rows that it wants, as Acero's fetch node stops its input: nothing
+    /// waits on their edges any more, and what is in flight at them is dropped when it is delivered.
+    pub fn stop(&mut self, node: u32)
+        requires enabled { Enabled (plan_of self.old.given) (state_of self.old) (Entry.Stop node) }
+        requires room { 1 ≤ self.old.room }
+        ensures { self.new ≡ with_entry self.old (Entry.Stop node) 1 }
+    {
+        self.run.stop(node);
+    }
+
+    /// Ends the task of a worker that found no memory for it, and with it the run: from then on nothing is claimed, and
+    /// what is still in flight is dropped when it is delivered.
+    pub fn fail(&mut self, worker: u32)
+        requires { Enabled (plan_of self.old.given) (state_of self.old) (Entry.Fail worker) }
+        ensures { self.new ≡ with_entry self.old (Entry.Fail worker) 0 }
+    {
+        self.run.fail(worker);
+    }
+
+    /// What the run gives, once it has ended: the rows of its sink, its history, and how many batches waited on each edge at
+    /// most. The rows are those of the plan over whole tables, and no edge held more than its pause threshold and one batch
+    /// for each worker. Refused for want of memory alone.
+    pub fn take_rows(self) -> Mem<Finished>
+        requires { IsEnded (plan_of self.given) (state_of self) }
+        ensures finished { IfOk result (IsFinished self.given) }
+        ensures history { IfOk result (λ finished. finished.history ≡ self.history) }
+    {
+        let PlanState { run, .. } = self;
+        run.take_rows()
     }
 }

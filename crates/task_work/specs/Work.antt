@@ -8,7 +8,7 @@ use Rattle.scalar_value.specs.declared.value.ColType.{ColType}
 use Rattle.row_table.specs.Tables.{TableValue}
 use Rattle.column_batch.specs.Batches.{BatchValue, kinds_of}
 use Rattle.plan_machine.specs.declared.entry.Job.TheVariants as job
-use Rattle.plan_machine.specs.Batch.{Batch, gathered, marked, piece, parts}
+use Rattle.plan_machine.specs.Batch.{Batch, gathered, key, marked, piece, parts}
 use Rattle.plan_machine.specs.State.{Task}
 use Rattle.plan_nodes.specs.Operators.{OpMeaning, Ends, item, first_of, folded_of, sent_rows, next_from, end_count, end_part, Each, flat}
 use Rattle.task_work.specs.Sites.{Site}
@@ -100,7 +100,11 @@ module _ {O S L : Type 0}
 
     abbrev pub IsFruit : Task (List Value) → Fruit O S L → Type 0
     IsFruit t (fruit.Emit table out) = (t.job ≡ job.Emit) × IsTable table × IsOut (Some t.number) (piece v.kept v.batch v.table t.number).rows out
-    IsFruit t (fruit.Fold part) = (t.job ≡ job.Fold) × IsPart (folded_of v.meaning v.inputs) (t.took ++ t.batch ∷ []) t.built [] part
+    IsFruit t (fruit.Fold part index rows) =
+        (t.job ≡ job.Fold)
+        × IsPart (folded_of v.meaning v.inputs) (t.took ++ t.batch ∷ []) t.built [] part
+        × (index ≡ key t.batch)
+        × (rows ≡ length t.batch.rows)
     IsFruit t (fruit.Seal row count) = (t.job ≡ job.Seal) × IsRow (first_of v.inputs) [] (gathered t.took) [] row.items × IsCount v.meaning.shape.streams (gathered t.took) [] count
     IsFruit t (fruit.Stream part out rest) =
         (t.job ≡ job.Stream)

@@ -1,6 +1,6 @@
 ghost use Rattle.std.specs.Prelude.{◌≡◌, List, IfOk, MatchOption, Some, None};
 ghost use Rattle.scalar_value.specs.declared.value.Value.{Value};
-ghost use Rattle.plan_machine.specs.Batch.{marked};
+ghost use Rattle.plan_machine.specs.Batch.{marked, key_of};
 ghost use Rattle.plan_machine.specs.State.{Task as MachineTask};
 ghost use Rattle.task_work.specs.Sites.{Site};
 ghost use Rattle.task_work.specs.Work.{IsWork, IsFruit};
@@ -16,6 +16,16 @@ pub fn index_where(kept: bool, index: Option<u64>) -> Option<u64>
     ensures { result ≡ marked kept index }
 {
     if kept { index } else { None }
+}
+
+/// The place of a batch by its index; one without an index stands with that of index 0.
+fn place_of(index: Option<u64>) -> u64
+    ensures { result ≡ key_of index }
+{
+    match index {
+        Some(index) => index,
+        None => 0,
+    }
 }
 
 /// The batch, which waits with its output from this row on, where there is such a row.
@@ -45,9 +55,13 @@ pub fn fold<O: Operator>(
         shared,
         mut local,
     } = part;
+    let index = place_of(batch.index());
+    let rows = batch.len() as u64;
     op.fold(alloc, &mut local, batch)?;
     Ok(Fruit::Fold {
         part: Part { op, shared, local },
+        index,
+        rows,
     })
 }
 

@@ -313,7 +313,10 @@ fn a_folded_batch_goes_to_the_local_part(rt: HostRuntime) -> Result<(), Fail> {
     let part = part_of(alloc, &[(0, 10)])?;
     let batch = one_row(alloc, 2, 30)?;
     match run(&rt, alloc, true, Work::Fold { part, batch })? {
-        Fruit::Fold { part } => expect_batches(&rt, &part.local, &[(0, 10), (2, 30)]),
+        Fruit::Fold { part, index, rows } => {
+            assert_eq!(rt; (index, rows), (2, 1));
+            expect_batches(&rt, &part.local, &[(0, 10), (2, 30)])
+        }
         _ => assert!(&rt; false, "no part"),
     }
     Ok(())

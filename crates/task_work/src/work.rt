@@ -54,7 +54,8 @@ pub enum Work<O, S, L> {
     },
 }
 
-/// What the worker gives back: the shares that it took, and what its job made.
+/// What the worker gives back: the shares that it took, and what its job made; of a batch that it folded its index, 0
+/// where it has none, and the number of its rows, by which a fetch knows what it has seen.
 #[derive(Drop)]
 pub enum Fruit<O, S, L> {
     Emit {
@@ -63,6 +64,8 @@ pub enum Fruit<O, S, L> {
     },
     Fold {
         part: Part<O, S, L>,
+        index: u64,
+        rows: u64,
     },
     Seal {
         row: Vec<Option<Share<O, S, L>>>,

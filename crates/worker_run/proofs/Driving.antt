@@ -14,11 +14,9 @@ use Rattle.plan_machine.specs.Driver.{IsDriverEntry, IsDrivenFrom, IsUpkeepChoic
 use Rattle.plan_machine.proofs.BoundLoad.{claimed_tasks, landed_tasks}
 use Rattle.plan_machine.proofs.DriverHistory.{grows}
 use Rattle.plan_machine.proofs.Weigh.{upd-here}
-use Rattle.plan_nodes.specs.Plans.{IsPlan}
 use Rattle.plan_store.specs.Told.{Given, Told, plan_of, state_of, site_of, with_entry}
-use Rattle.task_core.specs.declared.result.Finished.{Finished}
-use Rattle.task_core.specs.Opening.{IsFinished}
-use Rattle.task_core.proofs.Choices.{no_stop}
+use Rattle.run_state.specs.declared.result.Finished.{Finished}
+use Rattle.run_state.specs.Opening.{IsFinished}
 use Rattle.worker_run.specs.Driving.{IsDriving, WentOn, Worked}
 
 module _ {R : Type 0} (P : Plan R) where
@@ -101,10 +99,6 @@ module _ (t : Told) (w-node : ℕ) (w-job : Job) (w-number : ℕ) where
 
 pub went_on_work : (t now : Told) → IsDriving t → IsWorker (plan_of t.given) 1 → (IsEnded (plan_of t.given) (state_of t) → ⊥) → NoUpkeep (plan_of t.given) (state_of t) → Worked t now → WentOn t now
 went_on_work t now h one on none w = subst (λ x. WentOn t x) (sym w.told) (worked_on t w.node w.job w.number h one on none w.chosen)
-
--- the one upkeep that isn't there yet: a fetch is not built
-pub never_stops : (t : Told) → IsPlan t.given.nodes → (n : ℕ) → IsUpkeepChoice (plan_of t.given) (state_of t) (Stop n) → ⊥
-never_stops t planned n c = no_stop t.given planned (state_of t) n c.0.1
 
 pub site_batch : (g : Given) (n : ℕ) → (site_of g n).batch ≡ g.pace.batch
 unfolding site_of

@@ -7,7 +7,7 @@ ghost use Rattle.plan_nodes.specs.Plans.{IsPlan, IsPace};
 ghost use Rattle.plan_bounds.specs.Bounds.{most_entries};
 ghost use Rattle.plan_store.specs.Told.{plan_of, state_of, given_by, pace_of, rows_of_tables, with_entry};
 ghost use Rattle.plan_store.specs.Beginning.{AreTables, AreOperators, IsSetting};
-ghost use Rattle.task_core.specs.Opening.{IsFinished};
+ghost use Rattle.run_state.specs.Opening.{IsFinished};
 ghost use Rattle.worker_run.specs.Driving.{IsDriving, WentOn, Worked};
 
 use plan_bounds::plans_end;
@@ -31,10 +31,7 @@ pub fn keep_up<O: Operator>(state: &mut PlanState<O>, due: Entry)
         Entry::Pause { edge } => state.pause(edge),
         Entry::Finish { node } => state.finish(node),
         Entry::Resume { edge } => state.resume(edge),
-        Entry::Stop { .. } => {
-            state.runs_plan();
-            unreachable!()
-        }
+        Entry::Stop { node } => state.stop(node),
         Entry::Claim { .. } => unreachable!(),
         Entry::Deliver { .. } => unreachable!(),
         Entry::Fail { .. } => unreachable!(),

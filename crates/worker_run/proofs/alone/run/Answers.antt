@@ -3,7 +3,7 @@ use Rattle.plan_machine.specs.History.{IsHistory}
 use Rattle.plan_machine.specs.Driver.{IsDriven}
 use Rattle.plan_nodes.specs.Plans.{IsPlan, IsPace}
 use Rattle.plan_store.specs.Told.{Given, plan_of}
-use Rattle.task_core.specs.Opening.{IsFinished}
+use Rattle.run_state.specs.Opening.{IsFinished}
 use Rattle.worker_run.proofs.Driving.{driven_result}
 use Rattle.worker_run.proofs.alone.run.Goals as goal
 

@@ -19,6 +19,12 @@ returns-in_ok-seal-in-Join g c =
     (λ inputs lists fits each. c.in_ok-seal-in-Join.ensures inputs lists fits
     (subst (λ parts. Each (Keeps (second_of inputs)) parts lists) (sym c.in_ok-parts-in-Join.ensures) (parts-kept (second_of inputs) c.args.locals lists each)))
 
+pub returns-in_ok-seal-in-Fetch : goal.returns-in_ok-seal-in-Fetch
+returns-in_ok-seal-in-Fetch g c =
+    rw c.in-Fetch.is
+    (λ inputs lists fits each. c.in_ok-seal-in-Fetch.ensures inputs lists
+    (subst (λ parts. Each (Keeps (first_of inputs)) parts lists) (sym c.in_ok-parts-in-Fetch.ensures) (parts-kept (first_of inputs) c.args.locals lists each)))
+
 pub returns-in_ok-seal-in-Sink : goal.returns-in_ok-seal-in-Sink
 returns-in_ok-seal-in-Sink g c =
     rw c.in-Sink.is

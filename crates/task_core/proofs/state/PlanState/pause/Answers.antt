@@ -1,14 +1,13 @@
-use Rattle.std.proofs.Common.{◌≤◌, sym, subst, arith}
-use Rattle.plan_machine.specs.Enabled.{Enabled}
+use Rattle.std.proofs.Common.{◌≤◌, sym, subst}
+use Rattle.plan_store.specs.Told.{Told, plan_of, state_of}
 use Rattle.plan_machine.specs.declared.entry.Entry.TheVariants.{Pause}
-use Rattle.plan_store.specs.Told.{given_by, plan_of, state_of}
-use Rattle.task_core.proofs.Pausing.{after_pause}
+use Rattle.task_core.specs.Fronts.{FrontsStand}
+use Rattle.task_core.proofs.Fronts.{passes_pause, fronts_stay}
 use Rattle.task_core.proofs.state.PlanState.pause.Goals as goal
 
 pub invariant_of-self : goal.invariant_of-self
 invariant_of-self g c =
     let p = c.self.inside in
-    let can = subst (λ t. Enabled (plan_of t.given) (state_of t) (Pause c.args.edge)) (sym c.self.view_is) c.requires.enabled in
-    let room : 1 ≤ p.room = subst (λ t. 1 ≤ t.room) (sym c.self.view_is) c.requires.room in
-    rw c.push_reserved.ensures.items
-    (after_pause _ _ _ (given_by p.plan.nodes p.sources p.setting) p.history.items p.infos.items p.stages.items p.queues.items _ _ p.seats.items p.failed p.flying p.room _ _ _ c.args.edge c.self.invariant can c.set_paused.ensures (omega arith) c.push_reserved.ensures.capacity)
+    let room : 1 ≤ p.run.room = subst (λ (t : Told). 1 ≤ t.room) (sym c.self.view_is) c.requires.room in
+    subst (λ (t : Told). FrontsStand t p.fronts.items) (sym c.pause.ensures)
+    (fronts_stay p.run (Pause c.args.edge) 1 p.fronts.items room (passes_pause (plan_of p.run.given) (state_of p.run) c.args.edge) c.self.invariant)

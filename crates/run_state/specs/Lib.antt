@@ -1,0 +1,13 @@
+pub mod Stored
+pub mod Stages
+pub mod Stopping
+pub mod Outcome
+pub mod Due
+pub mod Legal
+pub mod Choosing
+pub mod Claiming
+pub mod Calls
+pub mod Known
+pub mod Delivering
+pub mod Opening
+pub mod AtEnd

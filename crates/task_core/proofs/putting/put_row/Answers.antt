@@ -1,6 +1,0 @@
-use Rattle.std.proofs.Common.{◌-◌}
-use Rattle.task_core.proofs.Rows.{row_put_whole}
-use Rattle.task_core.proofs.putting.put_row.Goals as goal
-
-pub returns : goal.returns
-returns g c = row_put_whole c.args.shares.now.items (c.args.node - 1) c.args.row

@@ -1,6 +1,0 @@
-use Rattle.std.proofs.Common.{◌≡◌, map, take}
-use Rattle.task_core.specs.AtEnd.{peak_of}
-use Rattle.task_core.proofs.reading.peaks_of.Given as goal
-
-abbrev pub invariant-loop-queue : goal.invariant-loop-queue
-invariant-loop-queue l = l.peaks ≡ map peak_of (take l.queue-index l.queues)

@@ -1,6 +1,0 @@
-use Rattle.plan_store.specs.Told.{plan_of, state_of}
-use Rattle.task_core.proofs.Choices.{none_more}
-use Rattle.task_core.proofs.state.PlanState.first_work.Goals as goal
-
-pub loop-place-preserved : goal.loop-place-preserved
-loop-place-preserved g c = none_more (plan_of c.args.self.now.given) (state_of c.args.self.now) c.loop-place.place c.loop-place.invariant c.in_default.ensures.none
