@@ -13,10 +13,10 @@ RoomBelow places more fronts =
     → length (slice_index_or fronts k d).behind.items + more ≤ vec_capacity (slice_index_or fronts k d).behind
 
 pub same_count : (f : Front) → IsSameCount f f
-same_count f = record { wanted = refl; upto = refl; rows = refl; behind = refl; room = omega arith }
+same_count f = record { wanted = refl; first = refl; behind = refl; room = omega arith }
 
 same_counts : (e f g : Front) → IsSameCount e f → IsSameCount f g → IsSameCount e g
-same_counts e f g a b = record { wanted = b.wanted ∙ a.wanted; upto = b.upto ∙ a.upto; rows = b.rows ∙ a.rows; behind = b.behind ∙ a.behind; room = (let x = a.room in let y = b.room in omega arith) }
+same_counts e f g a b = record { wanted = b.wanted ∙ a.wanted; first = b.first ∙ a.first; behind = b.behind ∙ a.behind; room = (let x = a.room in let y = b.room in omega arith) }
 
 -- one front gets more room
 pub same_set : (old fronts : List Front) (p : ℕ) (e f : Front) → p < length fronts → e ≡ slice_index_or fronts p e → IsSameCount e f → AreSameCounts old fronts → AreSameCounts old (slice_set fronts p f)

@@ -1,55 +1,53 @@
-//! What a fetch counts of what it has folded: the rows that are there from the front on, without a gap.
-ghost use Rattle.std.specs.Prelude.{◌≡◌, ◌↔◌, ◌<◌, ◌≤◌, ◌+◌, ◌^◌, ◌++◌, ◌∷◌, [], ℕ, List, length, Option, Some, None, IsTrue, false, IfSome, IfNone, OnOk, vec_len, vec_capacity, slice_index_or};
+//! What a fetch counts of what it has folded: the rows that are there from the front on, without a gap. A batch joins the
+//! runs that it touches, so a run ends where an index is missing.
+ghost use Rattle.std.specs.Prelude.{◌≡◌, ◌↔◌, ◌<◌, ◌≤◌, ◌+◌, ◌^◌, ◌++◌, ◌∷◌, [], ℕ, List, length, Option, Some, None, IsTrue, false, IfSome, IfNone, OnOk, vec_capacity, slice_index_or};
 ghost use Rattle.scalar_value.specs.declared.value.Value.{Value};
 ghost use Rattle.plan_machine.specs.Batch.{Batch, key};
 ghost use Rattle.plan_machine.specs.Enabled.{HasFront};
-ghost use Rattle.fetch_counts.specs.Counts.{IsCounted, FrontIs, IsFresh};
+ghost use Rattle.fetch_counts.specs.declared.front.Run.{Run};
+ghost use Rattle.fetch_counts.specs.Counts.{AreOfAll, AreBehind, FrontIs, Touch, IsJoined, IsFresh};
 
-use crate::front::Front;
+use crate::front::{Front, Run};
 use scalar_value::Mem;
 use std::alloc::Global;
 
-/// The first of the batches that has no gap before it any more.
-fn next_place(behind: &[(u64, u64)], upto: u128) -> Option<usize>
-    ensures some { IfSome result (λ p. (p < length behind.now) × ((d : ℕ × ℕ) → (slice_index_or behind.now p d).0 ≤ upto)) }
-    ensures none { IfNone result ((k : ℕ) (d : ℕ × ℕ) → k < length behind.now → upto < (slice_index_or behind.now k d).0) }
+/// A run that touches this one, so that no index is missing between the two.
+fn touching(behind: &[Run], run: Run) -> Option<usize>
+    ensures some { IfSome result (λ p. (p < length behind.now) × ((d : Run) → Touch run (slice_index_or behind.now p d))) }
+    ensures none { IfNone result ((k : ℕ) (d : Run) → k < length behind.now → Touch run (slice_index_or behind.now k d) → ⊥) }
 {
     for place in 0..behind.len() {
-        if u128::from(behind[place].0) <= upto {
+        if run.from <= behind[place].upto && behind[place].from <= run.upto {
             return Some(place);
         }
     }
     None
 }
 
-/// Counts a batch that has no gap before it any more.
-fn count_batch(front: &mut Front, place: usize)
-    requires place { place < vec_len front.old.behind }
-    requires near { (d : ℕ × ℕ) → (slice_index_or front.old.behind.items place d).0 ≤ front.old.upto }
-    ensures counts { (folded : List (Batch (List Value)))
-        → IsCounted folded front.old.upto front.old.rows front.old.behind.items
-        → IsCounted folded front.new.upto front.new.rows front.new.behind.items }
-    ensures length { length front.new.behind.items + 1 ≡ length front.old.behind.items }
-    ensures capacity { vec_capacity front.new.behind ≡ vec_capacity front.old.behind }
-    ensures wanted { front.new.wanted ≡ front.old.wanted }
+/// Two runs that touch as one.
+fn joined(run: Run, other: Run) -> Run
+    ensures { IsJoined run other result }
 {
-    let (index, rows) = front.behind.remove(place);
-    front.rows = front.rows.saturating_add(rows);
-    if u128::from(index) == front.upto {
-        front.upto += 1;
+    Run {
+        from: run.from.min(other.from),
+        upto: run.upto.max(other.upto),
+        rows: run.rows.saturating_add(other.rows),
     }
 }
 
-/// Counts all batches that have no gap before them any more.
-fn close_gap(front: &mut Front)
-    ensures counts { (folded : List (Batch (List Value))) → IsCounted folded front.old.upto front.old.rows front.old.behind.items → FrontIs folded front.new }
-    ensures length { length front.new.behind.items ≤ length front.old.behind.items }
-    ensures capacity { vec_capacity front.new.behind ≡ vec_capacity front.old.behind }
-    ensures wanted { front.new.wanted ≡ front.old.wanted }
+/// The run with all those that touch it, which are taken out.
+fn gather(behind: &mut Vec<Run>, run: Run) -> Run
+    ensures counts { (all : List (ℕ × ℕ)) → AreOfAll (run ∷ behind.old.items) all → AreOfAll (result ∷ behind.new.items) all }
+    ensures behind { (upto : ℕ) → AreBehind upto behind.old.items → AreBehind upto behind.new.items }
+    ensures apart { (k : ℕ) (d : Run) → k < length behind.new.items → Touch result (slice_index_or behind.new.items k d) → ⊥ }
+    ensures length { length behind.new.items ≤ length behind.old.items }
+    ensures capacity { vec_capacity behind.new ≡ vec_capacity behind.old }
 {
-    while let Some(place) = next_place(&front.behind, front.upto) {
-        count_batch(front, place);
+    let mut run = run;
+    while let Some(place) = touching(behind, run) {
+        run = joined(run, behind.remove(place));
     }
+    run
 }
 
 /// Counts a batch that was folded, by its index, 0 where it has none, and its number of rows.
@@ -60,8 +58,14 @@ pub fn note_folded(front: &mut Front, index: u64, rows: u64)
     ensures capacity { vec_capacity front.new.behind ≡ vec_capacity front.old.behind }
     ensures wanted { front.new.wanted ≡ front.old.wanted }
 {
-    front.behind.push_reserved((index, rows));
-    close_gap(front);
+    let from = u128::from(index);
+    let upto = from + 1;
+    let run = gather(&mut front.behind, Run { from, upto, rows });
+    if run.from <= front.first.upto {
+        front.first = joined(front.first, run);
+    } else {
+        front.behind.push_reserved(run);
+    }
 }
 
 /// Whether a fetch has folded from the front on, without a gap, as many rows as it wants.
@@ -70,7 +74,7 @@ pub fn is_met(front: &Front) -> bool
     ensures other { front.now.wanted ≡ None → result ≡ false }
 {
     match front.wanted {
-        Some(wanted) => front.rows >= wanted,
+        Some(wanted) => front.first.rows >= wanted,
         None => false,
     }
 }
@@ -81,8 +85,11 @@ pub fn front_of(alloc: Global, wanted: Option<u64>) -> Front
 {
     Front {
         wanted,
-        upto: 0,
-        rows: 0,
+        first: Run {
+            from: 0,
+            upto: 0,
+            rows: 0,
+        },
         behind: Vec::new(alloc),
     }
 }
@@ -90,8 +97,7 @@ pub fn front_of(alloc: Global, wanted: Option<u64>) -> Front
 /// Makes room to count so many batches more. What is counted stays as it is.
 pub fn reserve_front(front: &mut Front, more: usize) -> Mem<()>
     ensures wanted { front.new.wanted ≡ front.old.wanted }
-    ensures upto { front.new.upto ≡ front.old.upto }
-    ensures rows { front.new.rows ≡ front.old.rows }
+    ensures first { front.new.first ≡ front.old.first }
     ensures behind { front.new.behind.items ≡ front.old.behind.items }
     ensures capacity { vec_capacity front.old.behind ≤ vec_capacity front.new.behind }
     ensures room { OnOk result (length front.new.behind.items + more ≤ vec_capacity front.new.behind) }

@@ -1,12 +1,19 @@
-ghost use Rattle.std.specs.Prelude.{◌≤◌, ◌^◌};
+ghost use Rattle.std.specs.Prelude.{◌≡◌, ◌≤◌};
 
-/// For a fetch the rows that it wants to see; below which index all batches were folded, and how many rows these have; and
-/// the batches behind the first gap, by their indexes and numbers of rows.
+/// Folded batches whose indexes follow one another without a gap: from which index on, below which one, and how many rows.
+#[derive(Debug, Clone, Copy)]
+pub struct Run {
+    pub from: u128,
+    pub upto: u128,
+    pub rows: u64,
+    ghost ordered: { from ≤ upto },
+}
+
+/// For a fetch the rows that it wants to see; the run of folded batches from index 0 on; and the runs behind gaps.
 #[derive(Debug, Drop)]
 pub struct Front {
     pub wanted: Option<u64>,
-    pub upto: u128,
-    pub rows: u64,
-    pub behind: Vec<(u64, u64)>,
-    ghost few: { upto ≤ 2 ^ 64 },
+    pub first: Run,
+    pub behind: Vec<Run>,
+    ghost begins: { first.from ≡ 0 },
 }

@@ -6,5 +6,5 @@ mod front;
 mod fronts;
 
 pub use counting::is_met;
-pub use front::Front;
+pub use front::{Front, Run};
 pub use fronts::{fronts_of, note_at, reserve_fronts};

@@ -213,6 +213,9 @@ countable t w n u fronts worker node busy h =
 
 -- ---- with more room
 
+counts_on : (folded : List (Batch (List Value))) (old f : Front) → FrontIs folded old → IsSameCount old f → FrontIs folded f
+counts_on folded old f c y = rw (y.first, y.behind) c
+
 pub fronts_roomy : (t : Told) (more : ℕ) (fronts fronts' : List Front) → more ≡ flying_in (plan_of t.given) (state_of t) + max t.room 2
     → AreSameCounts fronts fronts' → HaveRoom more fronts' → FrontsStand t fronts → FrontsStand (record t { room = max t.room 2 }) fronts'
 fronts_roomy t more fronts fronts' is same room h = record {
@@ -224,15 +227,12 @@ fronts_roomy t more fronts fronts' is same room h = record {
       record {
         wanted = y.wanted ∙ x.wanted;
         few = x.few;
-        counts = λ m w. counts_on (x.counts m w) y;
+        counts = λ m w. counts_on ((state_of t).folded (suc k)) (slice_index_or fronts k d) (slice_index_or fronts' k d) (x.counts m w) y;
         fits = λ m w.
             let r = room k d lt (subst (λ o. IsSome o) (sym (y.wanted ∙ x.wanted ∙ w)) refl) in
             omega arith;
       };
 }
-  where
-    counts_on : {folded : List (Batch (List Value))} {old f : Front} → FrontIs folded old → IsSameCount old f → FrontIs folded f
-    counts_on {folded} {old} {f} c y = rw (y.upto, y.rows, y.behind) c
 
 -- the same is counted as before
 pub fronts_same : (t : Told) (fronts fronts' : List Front) → AreSameCounts fronts fronts' → FrontsStand t fronts → FrontsStand t fronts'
@@ -245,13 +245,10 @@ fronts_same t fronts fronts' same h = record {
       record {
         wanted = y.wanted ∙ x.wanted;
         few = x.few;
-        counts = λ m w. counts_on (x.counts m w) y;
+        counts = λ m w. counts_on ((state_of t).folded (suc k)) (slice_index_or fronts k d) (slice_index_or fronts' k d) (x.counts m w) y;
         fits = λ m w. let a = x.fits m w in let b = y.room in let c = ap length y.behind in omega arith;
       };
 }
-  where
-    counts_on : {folded : List (Batch (List Value))} {old f : Front} → FrontIs folded old → IsSameCount old f → FrontIs folded f
-    counts_on {folded} {old} {f} c y = rw (y.upto, y.rows, y.behind) c
 
 -- the room is made, or all is as before
 pub fronts_reserved : {E : Type 0} (t now : Told) (more : ℕ) (fronts fronts' : List Front) (r : Result (Unit {0}) E) → more ≡ flying_in (plan_of t.given) (state_of t) + max t.room 2
@@ -274,7 +271,7 @@ fronts_fresh g fronts size few fresh = record {
       record {
         wanted = x.wanted_is;
         few = λ m w. few k m lt w;
-        counts = λ m w. counted_none (slice_index_or fronts k d).upto (slice_index_or fronts k d).rows (slice_index_or fronts k d).behind.items x.upto x.rows x.behind;
+        counts = λ m w. counted_none (List Value) (slice_index_or fronts k d).first (slice_index_or fronts k d).behind.items x.upto x.rows x.behind;
         fits = λ m w. let a = none_flying (plan_of g).workers in let b = ap length x.behind in omega arith;
       };
 }

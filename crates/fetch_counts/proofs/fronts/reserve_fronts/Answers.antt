@@ -12,7 +12,7 @@ returns-in_err-reserve_front-clause-counts c =
     let within : c.loop-place.place < length c.loop-place.fronts.items = let l = c.loop-place.fronts.ok.0 in let a = c.loop-place.invariant.0.size in let b = c.args.fronts.now.ok.0 in let n = c.len-place-end.ensures in let lt = c.loop-place-test.true in omega arith in
     let e = c.reserve_front.ensures in
     same_set c.args.fronts.now.items c.loop-place.fronts.items c.loop-place.place c.index_mut-front.result.now c.reserve_front.new.front within c.index_mut-front.ensures.value
-    (record { wanted = e.wanted; upto = e.upto; rows = e.rows; behind = e.behind; room = e.capacity }) c.loop-place.invariant.0
+    (record { wanted = e.wanted; first = e.first; behind = e.behind; room = e.capacity }) c.loop-place.invariant.0
 
 pub loop-place-preserved : goal.loop-place-preserved
 loop-place-preserved c =
@@ -23,7 +23,7 @@ loop-place-preserved c =
           let fronts = c.loop-place.fronts.items in
           subst (λ x. AreSameCounts c.args.fronts.now.items x.items × RoomBelow (c.loop-place.place + 1) c.args.more x.items) (sym w.fronts-is) (
             same_set c.args.fronts.now.items fronts c.loop-place.place c.index_mut-front.result.now w.reserve_front.new.front within c.index_mut-front.ensures.value
-                (record { wanted = e.wanted; upto = e.upto; rows = e.rows; behind = e.behind; room = e.capacity }) c.loop-place.invariant.0,
+                (record { wanted = e.wanted; first = e.first; behind = e.behind; room = e.capacity }) c.loop-place.invariant.0,
             room_set fronts c.loop-place.place c.args.more w.reserve_front.new.front within w.in_ok-reserve_front.ensures.room c.loop-place.invariant.1,
           )
       | else-is_some w ↦
