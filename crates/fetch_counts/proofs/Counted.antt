@@ -9,7 +9,7 @@ use Rattle.plan_machine.specs.Batch.{Batch, key, rows_at, count_at}
 use Rattle.plan_machine.specs.Enabled.{front, HasFront}
 use Rattle.plan_machine.proofs.Weigh.{weigh-append, same_or}
 use Rattle.fetch_counts.specs.declared.front.Run.{Run}
-use Rattle.fetch_counts.specs.Counts.{count_of, AreOf, AreOfAll, AreBehind, Touch, IsJoined}
+use Rattle.fetch_counts.specs.Counts.{count_of, AreOf, AreOfAll, AreBehind, Touch, IsApart, AreApart, IsJoined}
 
 abbrev Count : Type 0
 Count = ℕ × ℕ
@@ -279,7 +279,7 @@ pub behind_remove : (upto : ℕ) (xs : List Run) (p : ℕ) → p < length xs →
 behind_remove upto xs p lt b = weigh_remove (not_behind upto) xs p lt b
 
 -- where the first run grows by one that touches no other, the others still stand behind a gap
-behind_joined : (run : Run) (upto upto' : ℕ) (xs : List Run) → ((k : ℕ) (d : Run) → k < length xs → Touch run (slice_index_or xs k d) → ⊥)
+behind_joined : (run : Run) (upto upto' : ℕ) (xs : List Run) → IsApart run xs
     → run.from ≤ upto → upto' ≡ max upto run.upto → AreBehind upto xs → AreBehind upto' xs
 behind_joined run upto upto' [] apart le is b = refl
 behind_joined run upto upto' (x ∷ xs) apart le is b = elim (cases_Bool (nat_lt upto x.from)) [
@@ -305,6 +305,34 @@ behind_last upto xs run lt b =
     let one : weigh (not_behind upto) (run ∷ []) ≡ 0 = rw here refl in
     omega arith
 
+-- ---- runs that don't touch
+
+apart_less : (r : Run) (xs : List Run) (p : ℕ) → p < length xs → IsApart r xs → IsApart r (remove xs p)
+apart_less r [] p lt h k d low = absurd (omega arith)
+apart_less r (x ∷ xs) zero lt h k d low = h (suc k) d (omega arith)
+apart_less r (x ∷ xs) (suc p) lt h zero d low = h 0 d (omega arith)
+apart_less r (x ∷ xs) (suc p) lt h (suc k) d low = apart_less r xs p (omega arith) (λ j e l. h (suc j) e (omega arith)) k d (omega arith)
+
+pub apart_remove : (xs : List Run) (p : ℕ) → p < length xs → AreApart xs → AreApart (remove xs p)
+apart_remove [] p lt h j k d less low = absurd (omega arith)
+apart_remove (x ∷ xs) zero lt h j k d less low = h (suc j) (suc k) d (omega arith) (omega arith)
+apart_remove (x ∷ xs) (suc p) lt h j zero d less low = absurd (omega arith)
+apart_remove (x ∷ xs) (suc p) lt h zero (suc k) d less low = apart_less x xs p (omega arith) (λ i e l. h 0 (suc i) e (omega arith) (omega arith)) k d (omega arith)
+apart_remove (x ∷ xs) (suc p) lt h (suc j) (suc k) d less low = apart_remove xs p (omega arith) (λ i l e m n. h (suc i) (suc l) e (omega arith) (omega arith)) j k d (omega arith) (omega arith)
+
+apart_more : (r : Run) (xs : List Run) (run : Run) → IsApart r xs → (Touch r run → ⊥) → IsApart r (xs ++ run ∷ [])
+apart_more r [] run h free zero d low = free
+apart_more r [] run h free (suc k) d low = absurd (omega arith)
+apart_more r (x ∷ xs) run h free zero d low = h 0 d (omega arith)
+apart_more r (x ∷ xs) run h free (suc k) d low = apart_more r xs run (λ i e l. h (suc i) e (omega arith)) free k d (omega arith)
+
+pub apart_last : (xs : List Run) (run : Run) → AreApart xs → IsApart run xs → AreApart (xs ++ run ∷ [])
+apart_last [] run h free j zero d less low = absurd (omega arith)
+apart_last [] run h free j (suc k) d less low = absurd (omega arith)
+apart_last (x ∷ xs) run h free j zero d less low = absurd (omega arith)
+apart_last (x ∷ xs) run h free zero (suc k) d less low = apart_more x xs run (λ i e l. h 0 (suc i) e (omega arith) (omega arith)) (λ t. free 0 x (omega arith) (t.1, t.0)) k d (omega arith)
+apart_last (x ∷ xs) run h free (suc j) (suc k) d less low = apart_last xs run (λ i l e m n. h (suc i) (suc l) e (omega arith) (omega arith)) (λ i e l. free (suc i) e (omega arith)) j k d (omega arith) (omega arith)
+
 -- behind a gap none has the index that is missing, and there are no rows below it
 none_behind : (u : ℕ) (xs : List Run) (all : List Count) → AreBehind u xs → AreOfAll xs all → (weigh (has_index u) all ≡ 0) × ((v : ℕ) → v ≤ u → weigh (rows_below v) all ≡ 0)
 none_behind u [] all b a = (a (has_index u), λ v le. a (rows_below v))
@@ -322,7 +350,7 @@ none_behind u (x ∷ xs) all b a = elim (cases_Bool (nat_lt u x.from)) [
 
 -- nothing was folded
 pub counted_none : (R : Type 0) (first : Run) (behind : List Run) → first.upto ≡ 0 → first.rows ≡ 0 → behind ≡ []
-    → AreOfAll (first ∷ behind) (map (count_of {R = R}) []) × AreBehind first.upto behind
+    → AreOfAll (first ∷ behind) (map (count_of {R = R}) []) × AreBehind first.upto behind × AreApart behind
 counted_none R first behind u r b = rw b (
   (
     [],
@@ -332,6 +360,7 @@ counted_none R first behind u r b = rw b (
     λ h. refl,
   ),
   refl,
+  λ j k d less low. absurd (omega arith),
 )
 
 -- ---- what was folded
@@ -397,11 +426,12 @@ module _ {R : Type 0} where
   pub first_grows : (folded : List (Batch R)) (b : Batch R) (first first' run : Run) (behind behind' : List Run)
       → first.from ≡ 0 → run.from ≤ first.upto → IsJoined first run first'
       → Gathers b behind behind' run
-      → ((k : ℕ) (d : Run) → k < length behind' → Touch run (slice_index_or behind' k d) → ⊥)
+      → IsApart run behind'
       → (AreBehind first.upto behind → AreBehind first.upto behind')
-      → AreOfAll (first ∷ behind) (map count_of folded) × AreBehind first.upto behind
-      → AreOfAll (first' ∷ behind') (map count_of (folded ++ b ∷ [])) × AreBehind first'.upto behind'
-  first_grows folded b first first' run behind behind' begins near e gathers apart far f =
+      → (AreApart behind → AreApart behind')
+      → AreOfAll (first ∷ behind) (map count_of folded) × AreBehind first.upto behind × AreApart behind
+      → AreOfAll (first' ∷ behind') (map count_of (folded ++ b ∷ [])) × AreBehind first'.upto behind' × AreApart behind'
+  first_grows folded b first first' run behind behind' begins near e gathers apart far still f =
       let a = f.0 in
       let g = gathers a.1 a.3 in (
         (
@@ -412,18 +442,21 @@ module _ {R : Type 0} where
           λ h. let x = a.4 h in let y = g.4 h in let z = weigh-append h a.0 g.0 in let w = one_folded h folded b in omega arith,
         ),
         behind_joined run first.upto first'.upto behind' apart near e.upto (far f.1),
+        still f.2,
       )
 
   pub one_behind : (folded : List (Batch R)) (b : Batch R) (first run : Run) (behind behind' behind2 : List Run)
       → first.upto < run.from → behind2 ≡ behind' ++ run ∷ []
       → Gathers b behind behind' run
+      → IsApart run behind'
       → (AreBehind first.upto behind → AreBehind first.upto behind')
-      → AreOfAll (first ∷ behind) (map count_of folded) × AreBehind first.upto behind
-      → AreOfAll (first ∷ behind2) (map count_of (folded ++ b ∷ [])) × AreBehind first.upto behind2
-  one_behind folded b first run behind behind' behind2 lt is gathers far f =
+      → (AreApart behind → AreApart behind')
+      → AreOfAll (first ∷ behind) (map count_of folded) × AreBehind first.upto behind × AreApart behind
+      → AreOfAll (first ∷ behind2) (map count_of (folded ++ b ∷ [])) × AreBehind first.upto behind2 × AreApart behind2
+  one_behind folded b first run behind behind' behind2 lt is gathers apart far still f =
       let a = f.0 in
       let g = gathers a.1 a.3 in
-      subst (λ xs. AreOfAll (first ∷ xs) (map count_of (folded ++ b ∷ [])) × AreBehind first.upto xs) (sym is) (
+      subst (λ xs. AreOfAll (first ∷ xs) (map count_of (folded ++ b ∷ [])) × AreBehind first.upto xs × AreApart xs) (sym is) (
         (
           a.0,
           g.1 ++ g.0,
@@ -432,6 +465,7 @@ module _ {R : Type 0} where
           λ h. let x = a.4 h in let y = g.4 h in let z = weigh-append h g.1 g.0 in let w = one_folded h folded b in omega arith,
         ),
         behind_last first.upto behind' run lt (far f.1),
+        apart_last behind' run (still f.2) apart,
       )
 
   pub one_batch : (b : Batch R) (from rows : ℕ) (behind behind' : List Run) (run : Run) → key b ≡ from → length b.rows ≡ rows → rows ≤ 2 ^ 64 - 1

@@ -31,12 +31,23 @@ AreOfAll (r ∷ rs) all =
 abbrev pub AreBehind : ℕ → List Run → Type 0
 AreBehind upto behind = weigh (λ r. cond (nat_lt upto r.from) 0 1) behind ≡ 0
 
-abbrev pub FrontIs : {R : Type 0} → List (Batch R) → Front → Type 0
-FrontIs folded f = AreOfAll (f.first ∷ f.behind.items) (map count_of folded) × AreBehind f.first.upto f.behind.items
-
 -- between two runs no index is missing
 abbrev pub Touch : Run → Run → Type 0
 Touch r t = (r.from ≤ t.upto) × (t.from ≤ r.upto)
+
+-- a run touches none of these; of these no two touch
+abbrev pub IsApart : Run → List Run → Type 0
+IsApart r rs = (k : ℕ) (d : Run) → k < length rs → Touch r (slice_index_or rs k d) → ⊥
+
+abbrev pub AreApart : List Run → Type 0
+AreApart rs = (j k : ℕ) (d : Run) → j < k → k < length rs → Touch (slice_index_or rs j d) (slice_index_or rs k d) → ⊥
+
+-- What is counted is what was folded, in as few runs as there can be.
+abbrev pub FrontIs : {R : Type 0} → List (Batch R) → Front → Type 0
+FrontIs folded f =
+    AreOfAll (f.first ∷ f.behind.items) (map count_of folded)
+    × AreBehind f.first.upto f.behind.items
+    × AreApart f.behind.items
 
 -- two runs as one
 pub record IsJoined (r t joined : Run) : Type 0 where

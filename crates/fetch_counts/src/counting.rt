@@ -5,7 +5,7 @@ ghost use Rattle.scalar_value.specs.declared.value.Value.{Value};
 ghost use Rattle.plan_machine.specs.Batch.{Batch, key};
 ghost use Rattle.plan_machine.specs.Enabled.{HasFront};
 ghost use Rattle.fetch_counts.specs.declared.front.Run.{Run};
-ghost use Rattle.fetch_counts.specs.Counts.{AreOfAll, AreBehind, FrontIs, Touch, IsJoined, IsFresh};
+ghost use Rattle.fetch_counts.specs.Counts.{AreOfAll, AreBehind, Touch, IsApart, AreApart, FrontIs, IsJoined, IsFresh};
 
 use crate::front::{Front, Run};
 use scalar_value::Mem;
@@ -14,7 +14,7 @@ use std::alloc::Global;
 /// A run that touches this one, so that no index is missing between the two.
 fn touching(behind: &[Run], run: Run) -> Option<usize>
     ensures some { IfSome result (λ p. (p < length behind.now) × ((d : Run) → Touch run (slice_index_or behind.now p d))) }
-    ensures none { IfNone result ((k : ℕ) (d : Run) → k < length behind.now → Touch run (slice_index_or behind.now k d) → ⊥) }
+    ensures none { IfNone result (IsApart run behind.now) }
 {
     for place in 0..behind.len() {
         if run.from <= behind[place].upto && behind[place].from <= run.upto {
@@ -39,7 +39,8 @@ fn joined(run: Run, other: Run) -> Run
 fn gather(behind: &mut Vec<Run>, run: Run) -> Run
     ensures counts { (all : List (ℕ × ℕ)) → AreOfAll (run ∷ behind.old.items) all → AreOfAll (result ∷ behind.new.items) all }
     ensures behind { (upto : ℕ) → AreBehind upto behind.old.items → AreBehind upto behind.new.items }
-    ensures apart { (k : ℕ) (d : Run) → k < length behind.new.items → Touch result (slice_index_or behind.new.items k d) → ⊥ }
+    ensures apart { IsApart result behind.new.items }
+    ensures others { AreApart behind.old.items → AreApart behind.new.items }
     ensures length { length behind.new.items ≤ length behind.old.items }
     ensures capacity { vec_capacity behind.new ≡ vec_capacity behind.old }
 {

@@ -3,3 +3,5 @@ pub mod Queues
 pub mod Beginning
 pub mod Openings
 pub mod Shares
+pub mod Putting
+pub mod Taking

@@ -36,7 +36,7 @@ use Rattle.run_state.specs.Opening.{peaks_upto, IsFinished}
 use Rattle.run_state.specs.AtEnd.{peak_of}
 use Rattle.run_state.proofs.Known.{known}
 use Rattle.plan_store.proofs.At.{some_of}
-use Rattle.run_state.proofs.Rows.{row_read}
+use Rattle.plan_store.proofs.RowsPut.{row_read}
 
 -- ---- rows, part by part
 

@@ -25,7 +25,7 @@ use Rattle.plan_store.specs.declared.stage.NodeInfo.{NodeInfo}
 use Rattle.plan_store.specs.declared.stage.Flight.{Flight}
 use Rattle.plan_store.specs.Told.{Given, plan_of, site_of}
 use Rattle.run_state.specs.Stored.{PartStands, takes_all, Stands}
-use Rattle.run_state.specs.Stages.{less_busy}
+use Rattle.plan_store.specs.Putting.{less_busy}
 use Rattle.run_state.proofs.Growing.{with_most}
 use Rattle.run_state.proofs.Delivering.{peaks, peak_stays}
 use Rattle.run_state.proofs.Landed.{lands, after_landed, put_at}

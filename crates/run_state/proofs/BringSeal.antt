@@ -34,8 +34,8 @@ use Rattle.plan_store.specs.declared.stage.NodeInfo.{NodeInfo}
 use Rattle.plan_store.specs.declared.stage.Flight.{Flight}
 use Rattle.plan_store.specs.Told.{Given, plan_of, site_of}
 use Rattle.run_state.specs.Stored.{Held, InfoIs, StageIs, PartStands, Stands}
-use Rattle.run_state.specs.Stages.{less_busy}
-use Rattle.run_state.specs.Delivering.{in_phase}
+use Rattle.plan_store.specs.Putting.{less_busy}
+use Rattle.plan_store.specs.Putting.{in_phase}
 use Rattle.plan_store.proofs.At.{some_of}
 use Rattle.run_state.proofs.Known.{known}
 use Rattle.run_state.proofs.Delivering.{site_workers, RowAt, stage_landed, departing}

@@ -34,8 +34,8 @@ use Rattle.plan_store.specs.declared.stage.NodeInfo.{NodeInfo}
 use Rattle.plan_store.specs.declared.stage.Flight.{Flight}
 use Rattle.plan_store.specs.Told.{Given, plan_of, site_of}
 use Rattle.run_state.specs.Stored.{Held, InfoIs, QueueIs, PartStands, takes_all, goes_on, Stands}
-use Rattle.run_state.specs.Stages.{less_busy}
-use Rattle.run_state.specs.Delivering.{IsGrown, HasRoom}
+use Rattle.plan_store.specs.Putting.{less_busy}
+use Rattle.plan_store.specs.Putting.{IsGrown, HasRoom}
 use Rattle.run_state.proofs.Held.{held_map}
 use Rattle.plan_store.proofs.At.{some_of}
 use Rattle.run_state.proofs.Delivering.{AllQueues, peaks, peak_stays}

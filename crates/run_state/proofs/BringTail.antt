@@ -28,8 +28,8 @@ use Rattle.plan_store.specs.declared.stage.NodeInfo.{NodeInfo}
 use Rattle.plan_store.specs.declared.stage.Flight.{Flight}
 use Rattle.plan_store.specs.Told.{Given, plan_of, site_of}
 use Rattle.run_state.specs.Stored.{PartStands, takes_all, Stands}
-use Rattle.run_state.specs.Stages.{less_busy}
-use Rattle.run_state.specs.Delivering.{IsGrown, HasRoom}
+use Rattle.plan_store.specs.Putting.{less_busy}
+use Rattle.plan_store.specs.Putting.{IsGrown, HasRoom}
 use Rattle.run_state.proofs.Known.{known}
 use Rattle.run_state.proofs.Landed.{Lands, lands, after_landed}
 use Rattle.run_state.proofs.Bringing.{Brings, BringsAt, placed}

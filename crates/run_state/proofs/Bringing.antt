@@ -18,7 +18,8 @@ use Rattle.plan_store.specs.declared.stage.Stage.{Stage}
 use Rattle.plan_store.specs.declared.stage.NodeInfo.{NodeInfo}
 use Rattle.plan_store.specs.declared.stage.Flight.{Flight}
 use Rattle.run_state.specs.Stored.{Stands}
-use Rattle.run_state.specs.Delivering.{is_dropped, HasPlace}
+use Rattle.plan_store.specs.Putting.{HasPlace}
+use Rattle.run_state.specs.Delivering.{is_dropped}
 use Rattle.run_state.proofs.Seated.{seated}
 
 module _ {O S L : Type 0}

@@ -28,7 +28,8 @@ use Rattle.plan_store.specs.declared.stage.NodeInfo.{NodeInfo}
 use Rattle.plan_store.specs.declared.stage.Flight.{Flight}
 use Rattle.plan_store.specs.Told.{Told, plan_of, state_of, site_of}
 use Rattle.run_state.specs.Stored.{Stands, QueueIs, IsWaiting, waiting_item, goes_on, takes_all}
-use Rattle.run_state.specs.Claiming.{gives_next, takes_batch, with_task, IsEntering, IsShortened, reads_from, IsShareOf, IsRowOf, IsOldest}
+use Rattle.plan_store.specs.Taking.{gives_next, with_task, IsEntering, IsShortened}
+use Rattle.run_state.specs.Claiming.{takes_batch, reads_from, IsShareOf, IsRowOf, IsOldest}
 use Rattle.plan_store.proofs.At.{some_of}
 use Rattle.run_state.proofs.Delivering.{site_workers}
 use Rattle.run_state.proofs.Claiming.{share_at, row_whole, idle_at, entering_at, after_one, after_batch, after_all, within, oldest}

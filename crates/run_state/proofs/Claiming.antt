@@ -29,7 +29,8 @@ use Rattle.plan_store.specs.declared.stage.NodeInfo.{NodeInfo}
 use Rattle.plan_store.specs.declared.stage.Flight.{Flight}
 use Rattle.plan_store.specs.Told.{Given, plan_of, site_of}
 use Rattle.run_state.specs.Stored.{Stored, Stands, StageIs, QueueIs, IsWaiting, waiting_item, goes_on, in_flight, takes_all, AllAway, Away, PartStands, SlotIs, RowIs, is_live}
-use Rattle.run_state.specs.Claiming.{gives_next, takes_batch, next_by, with_task, IsShortened, reads_from}
+use Rattle.plan_store.specs.Taking.{gives_next, next_by, with_task, IsShortened}
+use Rattle.run_state.specs.Claiming.{takes_batch, reads_from}
 use Rattle.run_state.proofs.Held.{held_set}
 use Rattle.run_state.proofs.Growing.{peak_covers, with_most, standing}
 use Rattle.run_state.proofs.Seated.{seated}

@@ -23,8 +23,8 @@ use Rattle.plan_store.specs.declared.stage.NodeInfo.{NodeInfo}
 use Rattle.plan_store.specs.declared.stage.Flight.{Flight}
 use Rattle.plan_store.specs.Told.{Given, plan_of, site_of}
 use Rattle.run_state.specs.Stored.{Held, StageIs, QueueIs, RowIs, is_live, goes_on, Stored, Stands}
-use Rattle.run_state.specs.Stages.{less_busy}
-use Rattle.run_state.specs.Delivering.{IsDeparting}
+use Rattle.plan_store.specs.Putting.{less_busy}
+use Rattle.plan_store.specs.Putting.{IsDeparting}
 use Rattle.run_state.proofs.Held.{held_set, held_map}
 use Rattle.plan_store.proofs.At.{some_of}
 use Rattle.run_state.proofs.Growing.{peak_covers, with_most, standing}

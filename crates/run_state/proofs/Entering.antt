@@ -21,7 +21,7 @@ use Rattle.plan_store.specs.declared.stage.NodeInfo.{NodeInfo}
 use Rattle.plan_store.specs.declared.stage.Flight.{Flight}
 use Rattle.plan_store.specs.Told.{Given, plan_of, site_of}
 use Rattle.run_state.specs.Stored.{Held, Stored, StageIs, QueueIs, SeatIs, goes_on, in_flight, takes_all, AllAway, Away, SlotStands, SlotIs, RowIs}
-use Rattle.run_state.specs.Claiming.{with_task, next_by}
+use Rattle.plan_store.specs.Taking.{with_task, next_by}
 use Rattle.run_state.proofs.Held.{held_set}
 use Rattle.run_state.proofs.Landing.{Tasks}
 

@@ -25,8 +25,8 @@ use Rattle.plan_store.specs.declared.stage.NodeInfo.{NodeInfo}
 use Rattle.plan_store.specs.declared.stage.Flight.{Flight}
 use Rattle.plan_store.specs.Told.{Given, plan_of, site_of}
 use Rattle.run_state.specs.Stored.{PartStands, is_live, takes_all, AllAway, Stands}
-use Rattle.run_state.specs.Stages.{less_busy}
-use Rattle.run_state.specs.Delivering.{HasSeat}
+use Rattle.plan_store.specs.Putting.{less_busy}
+use Rattle.plan_store.specs.Putting.{HasSeat}
 use Rattle.plan_store.proofs.At.{some_of}
 use Rattle.run_state.proofs.Known.{known}
 use Rattle.run_state.proofs.Seated.{seated}

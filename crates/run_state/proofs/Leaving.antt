@@ -24,7 +24,7 @@ use Rattle.plan_store.specs.declared.stage.NodeInfo.{NodeInfo}
 use Rattle.plan_store.specs.declared.stage.Flight.{Flight}
 use Rattle.plan_store.specs.Told.{Given, plan_of, site_of}
 use Rattle.run_state.specs.Stored.{Stored, Stands, StageIs, RowIs, SeatIs, in_flight}
-use Rattle.run_state.specs.Stages.{less_busy}
+use Rattle.plan_store.specs.Putting.{less_busy}
 use Rattle.std.proofs.lemmas.List.{length-set}
 use Rattle.run_state.proofs.Held.{held_set, held_map}
 use Rattle.plan_store.proofs.At.{some_of}

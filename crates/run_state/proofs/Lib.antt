@@ -10,7 +10,6 @@ pub mod Finishing
 pub mod Below
 pub mod Stopped
 pub mod Leaving
-pub mod Rows
 pub mod Landing
 pub mod Delivering
 pub mod Entering

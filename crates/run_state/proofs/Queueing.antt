@@ -20,7 +20,7 @@ use Rattle.plan_machine.proofs.BoundLoad.{bounded_history}
 use Rattle.task_work.specs.declared.work.Waiting.{Waiting}
 use Rattle.plan_store.specs.declared.queue.Queue.{Queue}
 use Rattle.run_state.specs.Stored.{Held, QueueIs, IsWaiting, waiting_item}
-use Rattle.run_state.specs.Delivering.{IsGrown, HasRoom}
+use Rattle.plan_store.specs.Putting.{IsGrown, HasRoom}
 use Rattle.run_state.proofs.Held.{held_set}
 
 module _ (columns : List ColType) (may : Bool) where

@@ -18,7 +18,7 @@ use Rattle.task_work.specs.Work.{IsOut, IsRest}
 use Rattle.plan_store.specs.declared.queue.Queue.{Queue}
 use Rattle.plan_store.specs.Told.{Given, plan_of, site_of}
 use Rattle.run_state.specs.Stored.{waiting_item, goes_on}
-use Rattle.run_state.specs.Delivering.{HasRoom}
+use Rattle.plan_store.specs.Putting.{HasRoom}
 use Rattle.run_state.proofs.Sizes.{size_cuts}
 use Rattle.run_state.proofs.Giving.{item_is}
 

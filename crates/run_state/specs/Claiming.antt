@@ -1,5 +1,5 @@
 -- What a claim takes out of a plan's state.
-use Rattle.std.specs.Prelude.{◌≡◌, ◌∷◌, ℕ, suc, ◌+◌, ◌-◌, ◌<◌, ◌≤◌, ◌^◌, Bool, true, false, nat_eq, List, length, Option, Some, None, slice_index_or}
+use Rattle.std.specs.Prelude.{◌≡◌, ℕ, suc, ◌<◌, Bool, true, false, nat_eq, List, length, Option, Some, None, slice_index_or}
 use Rattle.scalar_value.specs.declared.value.Value.{Value}
 use Rattle.scalar_value.specs.declared.value.ColType.{ColType}
 use Rattle.plan_machine.specs.declared.entry.Phase.{Phase}
@@ -8,8 +8,6 @@ use Rattle.plan_machine.specs.declared.entry.Job.TheVariants.{Emit, Fold, Seal, 
 use Rattle.plan_machine.specs.Batch.{Batch, blank}
 use Rattle.plan_machine.specs.Lists.{at_or}
 use Rattle.plan_machine.specs.Plan.{Plan as MachinePlan}
-use Rattle.std.specs.VecDeque.{deque_capacity}
-use Rattle.backpressure.specs.Edges.{with_one_less}
 use Rattle.plan_nodes.specs.Operators.{OpMeaning}
 use Rattle.std.specs.declared.alloc.Global.{Global}
 use Rattle.std.specs.declared.sync.Arc.{Arc}
@@ -21,22 +19,11 @@ use Rattle.task_work.specs.declared.work.Work.{Work}
 use Rattle.task_work.specs.Work.{IsWork}
 use Rattle.plan_machine.specs.State.{Task as MachineTask}
 use Rattle.task_work.specs.declared.work.Waiting.{Waiting}
-use Rattle.plan_store.specs.declared.queue.Queue.{Queue}
-use Rattle.plan_store.specs.declared.stage.Stage.{Stage}
-use Rattle.plan_store.specs.declared.stage.Flight.{Flight}
 use Rattle.plan_store.specs.Told.{Told, plan_of, state_of, site_of}
 use Rattle.run_state.specs.Choosing.{input_by}
 use Rattle.run_state.specs.Stored.{PartStands, IsWaiting, waiting_item, goes_on}
 
--- an Emit and a Tail give the next batch, a Fold and a Stream take one that waits
-abbrev pub gives_next : Job → Bool
-gives_next Emit = true
-gives_next Fold = false
-gives_next Seal = false
-gives_next Stream = false
-gives_next Close = false
-gives_next Tail = true
-
+-- a Fold and a Stream take a batch that waits
 abbrev pub takes_batch : Job → Bool
 takes_batch Emit = false
 takes_batch Fold = true
@@ -44,33 +31,6 @@ takes_batch Seal = false
 takes_batch Stream = true
 takes_batch Close = false
 takes_batch Tail = false
-
-abbrev pub next_by : Job → ℕ → ℕ
-next_by Emit k = k + 1
-next_by Fold k = k
-next_by Seal k = k
-next_by Stream k = k
-next_by Close k = k
-next_by Tail k = k + 1
-
--- with one task more in flight
-abbrev pub with_task : Stage → Job → Stage
-with_task st job = record st { next = next_by job st.next; busy = st.busy + 1 }
-
--- there is a seat for the worker's task, and its node counts it
-pub record IsEntering (seats : List (Option Flight)) (stages : List Stage) (flying entries capacity : ℕ) (worker : ℕ) (f : Flight) : Type 0 where
-  pub seat : (1 ≤ worker) × (worker ≤ length seats)
-  pub node : (1 ≤ f.node) × (f.node ≤ length stages)
-  pub busy : (d : Stage) → (slice_index_or stages (f.node - 1) d).busy < 2 ^ 32 - 1
-  pub next : (d : Stage) → gives_next f.job ≡ true → (slice_index_or stages (f.node - 1) d).next < (slice_index_or stages (f.node - 1) d).count
-  pub room : entries < capacity
-  pub flies : flying < 2 ^ 64 - 1
-
--- the queue without its first batch
-pub record IsShortened (q : Queue) (first : Waiting) (q' : Queue) : Type 0 where
-  pub items : q.waiting.items ≡ first ∷ q'.waiting.items
-  pub room : deque_capacity q'.waiting ≡ deque_capacity q.waiting
-  pub edge : q'.edge ≡ with_one_less q.edge
 
 -- the edge that a node reads in its phase
 abbrev pub reads_from : MachinePlan (List Value) → ℕ → Phase → ℕ

@@ -5,14 +5,14 @@ ghost use Rattle.plan_machine.specs.Driver.{IsClaimChoice};
 ghost use Rattle.plan_store.specs.Told.{plan_of, state_of, site_of, with_entry};
 ghost use Rattle.run_state.specs.Calls.{Claimed};
 ghost use Rattle.run_state.specs.Stored.{takes_all};
-ghost use Rattle.run_state.specs.Claiming.{gives_next, takes_batch, reads_from, IsShareOf, IsRowOf, IsOldest, IsWorkOf, HasTable, HasPart};
+ghost use Rattle.plan_store.specs.Taking.{gives_next};
+ghost use Rattle.run_state.specs.Claiming.{takes_batch, reads_from, IsShareOf, IsRowOf, IsOldest, IsWorkOf, HasTable, HasPart};
 
 use crate::choice::input_of;
 use crate::state::RunState;
-use crate::taking::{enter, take_front, take_row, take_share};
 use plan_machine::{Entry, Job};
 use plan_nodes::Operator;
-use plan_store::Flight;
+use plan_store::{Flight, enter, take_front, take_row, take_share};
 use row_table::Table;
 use std::alloc::Global;
 use std::sync::Arc;

@@ -8,13 +8,13 @@ ghost use Rattle.plan_store.specs.Told.{plan_of, state_of, with_entry};
 ghost use Rattle.run_state.specs.Calls.{IsDue};
 ghost use Rattle.run_state.specs.Delivering.{IsFlying, is_dropped};
 
-use crate::putting::{
-    begin_phase, depart, first_input, has_ended, put_back, put_rest, put_row, put_share, shape_at,
-};
 use crate::state::RunState;
 use column_batch::Batch;
 use plan_machine::{Phase, phase_after_seal};
 use plan_nodes::Operator;
+use plan_store::{
+    begin_phase, depart, first_input, has_ended, put_back, put_rest, put_row, put_share, shape_at,
+};
 use row_table::Table;
 use std::alloc::Global;
 use std::sync::Arc;

@@ -2,7 +2,7 @@ ghost use Rattle.std.specs.Prelude.{◌≡◌, ◌<◌, ◌≤◌, slice_set, sl
 ghost use Rattle.plan_machine.specs.Enabled.{Enabled};
 ghost use Rattle.plan_store.specs.declared.stage.Stage.{Stage};
 ghost use Rattle.plan_store.specs.declared.stage.Flight.{Flight};
-ghost use Rattle.run_state.specs.Stages.{less_busy};
+ghost use Rattle.plan_store.specs.Putting.{less_busy};
 ghost use Rattle.plan_store.specs.Told.{plan_of, state_of, with_entry};
 
 use crate::state::RunState;

@@ -10,13 +10,11 @@ mod failing;
 mod legal;
 mod opening;
 mod outcome;
-mod putting;
 mod reading;
 mod result;
 mod room;
 mod state;
 mod stopping;
-mod taking;
 mod upkeep;
 
 pub use plan_store::{Ending, Setting};

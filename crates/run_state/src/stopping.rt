@@ -6,7 +6,7 @@ ghost use Rattle.plan_store.specs.declared.stage.Stage.{Stage};
 ghost use Rattle.plan_store.specs.declared.queue.Queue.{Queue};
 ghost use Rattle.plan_store.specs.Told.{plan_of, state_of, with_entry};
 ghost use Rattle.run_state.specs.Stages.{ended};
-ghost use Rattle.run_state.specs.Delivering.{HasPlace};
+ghost use Rattle.plan_store.specs.Putting.{HasPlace};
 ghost use Rattle.run_state.specs.Stopping.{IsEmptied, AreEnded, AreEmptied};
 
 use crate::state::RunState;

@@ -4,7 +4,7 @@ use Rattle.task_work.specs.declared.work.Fruit.TheVariants as fruit
 use Rattle.plan_store.specs.Told.{given_by}
 use Rattle.plan_store.specs.declared.stage.Stage.{Stage}
 use Rattle.plan_store.specs.declared.stage.NodeInfo.{NodeInfo}
-use Rattle.run_state.specs.Delivering.{HasPlace}
+use Rattle.plan_store.specs.Putting.{HasPlace}
 use Rattle.plan_store.proofs.At.{some_of}
 use Rattle.run_state.proofs.Bringing.{Brings, places}
 use Rattle.run_state.proofs.Delivering.{departing}

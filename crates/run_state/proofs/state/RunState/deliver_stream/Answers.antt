@@ -3,7 +3,7 @@ use Rattle.task_work.specs.declared.work.Fruit.TheVariants as fruit
 use Rattle.plan_store.specs.Told.{given_by}
 use Rattle.run_state.specs.Stored.{takes_all}
 use Rattle.plan_store.specs.declared.stage.NodeInfo.{NodeInfo}
-use Rattle.run_state.specs.Delivering.{HasPlace}
+use Rattle.plan_store.specs.Putting.{HasPlace}
 use Rattle.run_state.proofs.Bringing.{Brings, places}
 use Rattle.run_state.proofs.Delivering.{departing}
 use Rattle.run_state.proofs.Landed.{has_seat}

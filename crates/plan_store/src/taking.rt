@@ -1,14 +1,14 @@
-// What a claim does to the parts of a plan's state.
-
+//! What a claim does to the lists of a run.
 ghost use Rattle.std.specs.Prelude.{◌≡◌, ◌<◌, ◌≤◌, ◌-◌, ◌+◌, ◌++◌, [], ◌∷◌, true, List, length, map, Some, None, Option, slice_set, slice_index_or, vec_len, vec_capacity};
 ghost use Rattle.std.specs.VecDeque.{deque_len, deque_capacity};
 ghost use Rattle.plan_machine.specs.declared.entry.Entry.TheVariants as EntryOf;
 ghost use Rattle.plan_store.specs.declared.queue.Queue.{Queue};
 ghost use Rattle.plan_store.specs.declared.stage.Stage.{Stage};
-ghost use Rattle.run_state.specs.Claiming.{gives_next, next_by, with_task, IsEntering, IsShortened};
+ghost use Rattle.plan_store.specs.Taking.{gives_next, next_by, with_task, IsEntering, IsShortened};
 
+use crate::queue::Queue;
+use crate::stage::{Flight, Stage};
 use plan_machine::{Entry, Job};
-use plan_store::{Flight, Queue, Stage};
 use std::alloc::Global;
 use task_work::{Share, Waiting};
 

@@ -1,5 +1,4 @@
-// What a delivery does to the parts of a plan's state.
-
+//! What a delivery does to the lists of a run.
 ghost use Rattle.std.specs.Prelude.{◌≡◌, ◌<◌, ◌-◌, ◌^◌, ◌++◌, [], ◌∷◌, List, length, map, Some, None, Option, slice_set, slice_index_or, vec_len, vec_capacity};
 ghost use Rattle.std.specs.VecDeque.{deque_len, deque_capacity};
 ghost use Rattle.plan_store.specs.declared.queue.Queue.{Queue};
@@ -8,11 +7,12 @@ ghost use Rattle.plan_store.specs.declared.stage.NodeInfo.{NodeInfo};
 ghost use Rattle.task_work.specs.declared.work.Waiting.{Waiting};
 ghost use Rattle.plan_machine.specs.After.{is_done};
 ghost use Rattle.plan_machine.specs.declared.entry.Entry.TheVariants as EntryOf;
-ghost use Rattle.run_state.specs.Stages.{less_busy};
-ghost use Rattle.run_state.specs.Delivering.{in_phase, IsGrown, IsDeparting, HasPlace, HasSeat, HasRoom};
+ghost use Rattle.plan_store.specs.Putting.{less_busy};
+ghost use Rattle.plan_store.specs.Putting.{in_phase, IsGrown, IsDeparting, HasPlace, HasSeat, HasRoom};
 
+use crate::queue::Queue;
+use crate::stage::{Flight, NodeInfo, Stage};
 use plan_machine::{Entry, OpShape, Phase};
-use plan_store::{Flight, NodeInfo, Queue, Stage};
 use task_work::{Share, Waiting};
 
 /// Whether a node has ended.
@@ -78,7 +78,7 @@ pub fn put_back(queues: &mut Vec<Queue>, edge: u32, waiting: Waiting)
 }
 
 /// Puts a batch before all that wait on an edge.
-pub fn put_front(queues: &mut Vec<Queue>, edge: u32, waiting: Waiting)
+fn put_front(queues: &mut Vec<Queue>, edge: u32, waiting: Waiting)
     requires { HasRoom queues.old.items edge }
     ensures { (d : Queue) → (q : Queue)
         × (queues.new.items ≡ slice_set queues.old.items (edge - 1) q)

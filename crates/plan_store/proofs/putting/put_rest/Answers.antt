@@ -1,8 +1,8 @@
 use Rattle.std.proofs.Common.{◌≡◌, ◌-◌, ◌∷◌, Some, sym, subst, ◌∙◌, slice_set, slice_index_or}
 use Rattle.task_work.specs.declared.work.Waiting.{Waiting}
 use Rattle.plan_store.specs.declared.queue.Queue.{Queue}
-use Rattle.run_state.specs.Delivering.{IsGrown}
-use Rattle.run_state.proofs.putting.put_rest.Goals as goal
+use Rattle.plan_store.specs.Putting.{IsGrown}
+use Rattle.plan_store.proofs.putting.put_rest.Goals as goal
 
 pub returns-in-Some-clause-some : goal.returns-in-Some-clause-some
 returns-in-Some-clause-some c w d e =

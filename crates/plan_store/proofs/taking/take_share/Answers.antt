@@ -1,6 +1,6 @@
 use Rattle.std.proofs.Common.{◌<◌, length, arith, [], None, slice_set, ap, sym, subst}
-use Rattle.run_state.proofs.Rows.{row_read, row_set}
-use Rattle.run_state.proofs.taking.take_share.Goals as goal
+use Rattle.plan_store.proofs.RowsPut.{row_read, row_set}
+use Rattle.plan_store.proofs.taking.take_share.Goals as goal
 
 pub index_mut-requires : goal.index_mut-requires
 index_mut-requires g c =

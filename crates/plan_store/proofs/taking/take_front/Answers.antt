@@ -4,7 +4,7 @@ use Rattle.std.specs.Option.{option_to_list}
 use Rattle.std.specs.VecDeque.{deque_capacity}
 use Rattle.backpressure.specs.Edges.{with_one_less}
 use Rattle.plan_store.specs.declared.queue.Queue.{Queue}
-use Rattle.run_state.proofs.taking.take_front.Goals as goal
+use Rattle.plan_store.proofs.taking.take_front.Goals as goal
 
 pub returns : goal.returns
 returns c d =

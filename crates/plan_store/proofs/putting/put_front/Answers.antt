@@ -3,7 +3,7 @@ use Rattle.std.proofs.lemmas.List.{get_or_read}
 use Rattle.std.specs.VecDeque.{deque_capacity}
 use Rattle.backpressure.specs.Edges.{with_one_more}
 use Rattle.plan_store.specs.declared.queue.Queue.{Queue}
-use Rattle.run_state.proofs.putting.put_front.Goals as goal
+use Rattle.plan_store.proofs.putting.put_front.Goals as goal
 
 pub returns : goal.returns
 returns c d =

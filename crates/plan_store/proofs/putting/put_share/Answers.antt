@@ -1,7 +1,7 @@
 use Rattle.std.proofs.Common.{◌-◌, ◌<◌, length, [], Some, refl, sym, subst}
 use Rattle.std.proofs.lemmas.List.{length-map}
-use Rattle.run_state.proofs.Rows.{row_read, row_set}
-use Rattle.run_state.proofs.putting.put_share.Goals as goal
+use Rattle.plan_store.proofs.RowsPut.{row_read, row_set}
+use Rattle.plan_store.proofs.putting.put_share.Goals as goal
 
 pub index_mut-requires : goal.index_mut-requires
 index_mut-requires g c =
