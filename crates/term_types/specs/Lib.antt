@@ -1,3 +1,4 @@
 pub mod Collecting
 pub mod Parts
 pub mod Terms
+pub mod TermLaws

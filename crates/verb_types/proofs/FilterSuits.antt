@@ -10,7 +10,7 @@ use Rattle.na_expr.specs.Types.{typed, is_kind}
 use Rattle.syntax_tree.specs.declared.tree.Term.{Term, out-Term}
 use Rattle.syntax_tree.specs.declared.tree.Arg.{Arg}
 use Rattle.term_types.specs.Terms.{expression}
-use Rattle.term_laws.proofs.TypedPieces.{IfGiven, then_given}
+use Rattle.term_types.proofs.TypedPieces.{IfGiven, then_given}
 use Rattle.verb_forms.specs.declared.verb.Verb.TheVariants.{Filter}
 use Rattle.verb_forms.specs.Shapes.{ShapeValue, IsShape}
 use Rattle.verb_forms.specs.Suits.{is_empty, are_places, is_truth, is_condition, is_grouping}

@@ -2,7 +2,7 @@
 use Rattle.std.proofs.Common.{◌≡◌, ℕ, Bool, true, false, Ok, List, [], map, filter, IsTrue, refl}
 use Rattle.std.specs.Prelude.{if◌then◌else◌}
 use Rattle.syntax_tree.specs.declared.tree.Arg.{Arg}
-use Rattle.term_laws.proofs.TypedPieces.{IfGiven, then_given}
+use Rattle.term_types.proofs.TypedPieces.{IfGiven, then_given}
 use Rattle.verb_forms.specs.declared.verb.Verb.TheVariants.{GroupBy}
 use Rattle.verb_forms.specs.Shapes.{ShapeValue, IsShape}
 use Rattle.verb_forms.specs.Suits.{are_places}

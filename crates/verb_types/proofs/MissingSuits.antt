@@ -16,8 +16,8 @@ use Rattle.term_calls.specs.declared.piece.Piece.{Piece}
 use Rattle.term_calls.specs.declared.piece.Piece.TheVariants.{Na, Free, Number, Literal, Typed}
 use Rattle.term_calls.specs.Faults.{and_then, all_of}
 use Rattle.term_types.specs.Terms.{piece, place_of}
-use Rattle.term_laws.proofs.TypedPieces.{IfGiven, then_given, IsTyped}
-use Rattle.term_laws.proofs.TypedTerms.{terms_hold}
+use Rattle.term_types.proofs.TypedPieces.{IfGiven, then_given, IsTyped}
+use Rattle.term_types.proofs.TypedTerms.{terms_hold}
 use Rattle.verb_forms.specs.declared.verb.Verb.TheVariants.{DropNa, ReplaceNa}
 use Rattle.verb_forms.specs.Columns.{kind_at}
 use Rattle.verb_forms.specs.Shapes.{ShapeValue, IsShape}

@@ -8,7 +8,7 @@ use Rattle.na_expr.specs.declared.expr.Expr.{Expr}
 use Rattle.na_expr.specs.Types.{typed}
 use Rattle.syntax_tree.specs.declared.tree.Arg.{Arg}
 use Rattle.term_types.specs.Terms.{expression}
-use Rattle.term_laws.proofs.TypedPieces.{IfGiven, then_given}
+use Rattle.term_types.proofs.TypedPieces.{IfGiven, then_given}
 use Rattle.verb_forms.specs.declared.part.Part.{Part}
 use Rattle.verb_forms.specs.declared.verb.Verb.TheVariants.{Mutate}
 use Rattle.verb_forms.specs.Columns.{with_column}

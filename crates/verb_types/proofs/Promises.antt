@@ -15,8 +15,8 @@ use Rattle.syntax_tree.specs.declared.tree.Arg.{Arg}
 use Rattle.term_calls.specs.declared.fault.TermFault.{TermFault}
 use Rattle.term_calls.specs.Faults.{and_then, all_of}
 use Rattle.term_types.specs.Terms.{expression, place_of}
-use Rattle.term_laws.proofs.TypedPieces.{IfGiven, then_given}
-use Rattle.term_laws.proofs.TypedTerms.{terms_are_typed}
+use Rattle.term_types.proofs.TypedPieces.{IfGiven, then_given}
+use Rattle.term_types.proofs.TypedTerms.{terms_are_typed}
 use Rattle.verb_forms.specs.declared.verb.Verb.{Verb}
 use Rattle.verb_forms.specs.Columns.{names_at}
 use Rattle.verb_forms.specs.Shapes.{ShapeValue, IsShape}

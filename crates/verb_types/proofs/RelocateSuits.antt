@@ -2,7 +2,7 @@
 use Rattle.std.proofs.Common.{ℕ, not, codes, Some, None, Ok, List, [], ◌∷◌, map, IsTrue}
 use Rattle.row_table.specs.declared.field.Field.{Field}
 use Rattle.syntax_tree.specs.declared.tree.Arg.{Arg}
-use Rattle.term_laws.proofs.TypedPieces.{IfGiven, then_given}
+use Rattle.term_types.proofs.TypedPieces.{IfGiven, then_given}
 use Rattle.verb_forms.specs.declared.verb.Verb.TheVariants.{Relocate}
 use Rattle.verb_forms.specs.Shapes.{ShapeValue, IsShape}
 use Rattle.verb_forms.specs.Suits.{is_place, are_places}

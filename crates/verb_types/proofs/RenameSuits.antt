@@ -4,7 +4,7 @@ use Rattle.std.specs.List.{list_all}
 use Rattle.std.proofs.lemmas.Bool.{and_parts, both_ways, not-true}
 use Rattle.row_table.specs.declared.field.Field.{Field}
 use Rattle.syntax_tree.specs.declared.tree.Arg.{Arg}
-use Rattle.term_laws.proofs.TypedPieces.{IfGiven, then_given}
+use Rattle.term_types.proofs.TypedPieces.{IfGiven, then_given}
 use Rattle.verb_forms.specs.declared.verb.Verb.TheVariants.{Rename}
 use Rattle.verb_forms.specs.Shapes.{ShapeValue, IsShape}
 use Rattle.verb_forms.specs.Suits.{is_place}

@@ -17,7 +17,7 @@ use Rattle.syntax_tree.specs.declared.tree.TermKind.TheViews.{roll-TermKind, rol
 use Rattle.term_calls.specs.declared.fault.TermFault.{TermFault}
 use Rattle.term_calls.specs.Faults.{and_then}
 use Rattle.term_types.specs.Terms.{place_of}
-use Rattle.term_laws.proofs.TypedPieces.{Every, IfGiven, then_given}
+use Rattle.term_types.proofs.TypedPieces.{Every, IfGiven, then_given}
 use Rattle.selections.specs.declared.selector.Selector.{Selector}
 use Rattle.selections.specs.Columns.{all_places, is_among, with_or_without, between, lowered, contains_text, places_from}
 use Rattle.selections.specs.Selectors.{SelectorArgument, column_or_unknown, column_selector, first_away, start, with_selector, with_selectors, selection, values, by_one_text, by_text, all_columns, list_of, call_selector, away_of, first_place, range_of, kind_step, arg_step, call_step, pipe_step, term_step, selector, called, argument}

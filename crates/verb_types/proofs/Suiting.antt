@@ -8,7 +8,7 @@ use Rattle.syntax_tree.specs.declared.tree.Arg.{Arg}
 use Rattle.syntax_tree.specs.declared.tree.Call.{Call, out-Call}
 use Rattle.term_calls.specs.declared.fault.TermFault.{TermFault}
 use Rattle.term_calls.specs.Faults.{and_then}
-use Rattle.term_laws.proofs.TypedPieces.{IfGiven, then_given}
+use Rattle.term_types.proofs.TypedPieces.{IfGiven, then_given}
 use Rattle.verb_forms.specs.declared.verb.Verb.{Verb}
 use Rattle.verb_forms.specs.Shapes.{ShapeValue, IsShape}
 use Rattle.verb_forms.specs.After.{after}

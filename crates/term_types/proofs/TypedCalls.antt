@@ -15,8 +15,8 @@ use Rattle.term_calls.specs.declared.piece.Piece.{Piece}
 use Rattle.term_calls.specs.Faults.{and_then, all_of, stands_at}
 use Rattle.term_calls.specs.Pieces.{kind_of, type_as, expr_as, needed, needed_by, first_kind, is_free, are_free, text_of, is_literal}
 use Rattle.term_calls.specs.Calls.{call_of, alone, before, beside, agreement, agreement_as, free_where, of_one, of_two, choice, within, of_three, over, in_list, choice_over, first_there, case_kind, case_args, case_kinds, case_values, cases_by, cases, of_few, of_parts, text_day, text_as_date, beside_date, has_date, comparison, operated, between_parts, piece_of_part, function_call, with_items, among_literals, membership}
-use Rattle.term_laws.proofs.Calendar as calendar
-use Rattle.term_laws.proofs.TypedPieces.{Every, IfThere, IfGiven, every_map, then_given, every_given, stands_given, HaveTypes, IsTyped, typed_as, all_typed_as, call_typed}
+use Rattle.term_types.proofs.Calendar as calendar
+use Rattle.term_types.proofs.TypedPieces.{Every, IfThere, IfGiven, every_map, then_given, every_given, stands_given, HaveTypes, IsTyped, typed_as, all_typed_as, call_typed}
 
 -- a part with its place, and a condition with its value
 abbrev pub PartTyped : List Field → ℕ × Piece → Type 0

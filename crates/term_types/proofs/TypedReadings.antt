@@ -27,8 +27,8 @@ use Rattle.term_calls.specs.Pieces.{text_of}
 use Rattle.term_calls.specs.Names.{callee}
 use Rattle.term_calls.specs.Calls.{of_one, cases, function_call, membership}
 use Rattle.term_types.specs.Terms.{Reading, Argument, none_after, plain_reading, part, place_of, field_kind, column_at, word_piece, negative, signed, operator as operator_of, between_two, is_membership, is_tilde, behind_left, binary_value, both_sides, binary_reading, unnamed, plain_argument, plain_arguments, is_none, with_sides, with_case, with_cases, no_cases, case_call, is_case_when, day_literal, only_day, date_call, any_arguments, callee_value, call_reading}
-use Rattle.term_laws.proofs.TypedPieces.{Every, IfThere, IfGiven, every_more, every_map, then_given, every_given, stands_given, IsTyped, typed_column}
-use Rattle.term_laws.proofs.TypedCalls.{PartTyped, CaseTyped, one_typed, cases_typed, text_day_is, operated_typed, function_typed, member_typed}
+use Rattle.term_types.proofs.TypedPieces.{Every, IfThere, IfGiven, every_more, every_map, then_given, every_given, stands_given, IsTyped, typed_column}
+use Rattle.term_types.proofs.TypedCalls.{PartTyped, CaseTyped, one_typed, cases_typed, text_day_is, operated_typed, function_typed, member_typed}
 
 -- all that is read of a term is typed
 pub record IsRead (schema : List Field) (r : Reading) : Type 0 where

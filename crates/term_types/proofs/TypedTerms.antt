@@ -19,9 +19,9 @@ use Rattle.term_calls.specs.declared.piece.Piece.{Piece}
 use Rattle.term_calls.specs.Faults.{and_then}
 use Rattle.term_calls.specs.Pieces.{type_as, expr_as}
 use Rattle.term_types.specs.Terms.{Reading, Argument, kind_step, arg_step, call_step, pipe_step, term_step, reading, called, argument, piece}
-use Rattle.term_laws.specs.TermLaws.{TermsAreTyped, TermsAreTypedAs}
-use Rattle.term_laws.proofs.TypedPieces.{Every, IfGiven, IsTyped, typed_as}
-use Rattle.term_laws.proofs.TypedReadings.{IsRead, ArgumentRead, plain_read, column_typed, word_typed, unary_read, binary_read, call_read}
+use Rattle.term_types.specs.TermLaws.{TermsAreTyped, TermsAreTypedAs}
+use Rattle.term_types.proofs.TypedPieces.{Every, IfGiven, IsTyped, typed_as}
+use Rattle.term_types.proofs.TypedReadings.{IsRead, ArgumentRead, plain_read, column_typed, word_typed, unary_read, binary_read, call_read}
 
 -- what is read of a kind of term at a place, and nothing of a pipeline
 abbrev kind_reading : List Field → TermKind → ℕ → Reading

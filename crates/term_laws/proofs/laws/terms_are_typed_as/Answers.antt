@@ -1,5 +1,0 @@
-use Rattle.term_laws.proofs.TypedTerms.{terms_are_typed_as}
-use Rattle.term_laws.proofs.laws.terms_are_typed_as.Goals as goal
-
-pub returns : goal.returns
-returns c = terms_are_typed_as
